@@ -1,8 +1,41 @@
 //! Small values that the whole office shares, and the traits of the outside.
 #![tactic(auto)]
 
+mod company;
+mod cycle;
+mod day;
 mod duty;
+mod esn;
+mod fields;
+mod house;
+mod memory_sink;
+mod memory_source;
 mod names;
+mod no_memory;
+mod numbers;
+mod sink;
+mod source;
+mod std_streams;
+mod tn;
+mod whole_puts;
 
+pub use company::Company;
+pub use cycle::Cycle;
+pub use day::Day;
 pub use duty::{Duty, Mode};
+pub use esn::Esn;
+pub use fields::{columns, digits_number, front_trimmed, is_blank, is_printable, trimmed};
+pub use house::House;
+pub use memory_sink::MemSink;
+pub use memory_source::MemSource;
 pub use names::{DiskName, NodeName};
+pub use no_memory::NoMemory;
+pub use numbers::{fixed_number, write_zero_padded};
+pub use sink::{Put, Sink};
+pub use source::{Source, Taken};
+pub use std_streams::{ReaderSource, WriterSink};
+pub use tn::Tn;
+pub use whole_puts::{SinkFault, put_all};
+
+#[cfg(test)]
+mod tests;

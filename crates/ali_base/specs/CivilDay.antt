@@ -1,0 +1,31 @@
+-- Civil days of the years 2000 to 2099, written MMDDYY.
+use Rattle.std.specs.Prelude.{ℕ, ◌+◌, ◌==◌, ◌&&◌, Bool, nat_le, List, length, pos, Option, None, if◌then◌else◌}
+use Rattle.jiff_core.specs.Calendar.{days_in_month}
+use Rattle.ali_base.specs.Steps.{◌>>=◌, when}
+use Rattle.ali_base.specs.Columns.{columns}
+use Rattle.ali_base.specs.Digits.{digits_number}
+
+pub record CivilDay : Type 0 where
+  pub year : ℕ
+  pub month : ℕ
+  pub day : ℕ
+
+-- the calendar has this day
+abbrev pub is_civil_date : ℕ → ℕ → ℕ → Bool
+is_civil_date year month day = nat_le 1 month && nat_le month 12 && nat_le 1 day && nat_le day (days_in_month (pos year) month)
+
+-- the day of this number of the century's years, where the calendar has it
+abbrev pub day_in_century : ℕ → ℕ → ℕ → Option CivilDay
+day_in_century year month day = when (is_civil_date (2000 + year) month day) (record { year = 2000 + year; month = month; day = day })
+
+-- six digits: the month, the day, and the year's last two digits
+unfoldable pub written_day : List ℕ → Option CivilDay
+written_day bytes = do
+  month ← digits_number (columns bytes 1 2)
+  day ← digits_number (columns bytes 3 4)
+  year ← digits_number (columns bytes 5 6)
+  day_in_century year month day
+
+-- the day that these bytes are
+abbrev pub day_of : List ℕ → Option CivilDay
+day_of bytes = if length bytes == 6 then written_day bytes else None

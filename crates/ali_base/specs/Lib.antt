@@ -1,0 +1,15 @@
+pub mod Steps
+pub mod Columns
+pub mod Digits
+pub mod Numbers
+pub mod HouseNumber
+pub mod TelephoneNumber
+pub mod Company
+pub mod CivilDay
+pub mod Faults
+pub mod SourceCalls
+pub mod SinkCalls
+pub mod MemorySource
+pub mod MemorySink
+pub mod StdStreams
+pub mod WholePuts

@@ -1,0 +1,73 @@
+//! Civil days.
+ghost use Rattle.std.specs.Prelude.{◌≡◌, ℕ, ◌≤◌, ◌<◌, List, length};
+ghost use Rattle.ali_base.specs.CivilDay.{day_of, written_day, day_in_century, is_civil_date};
+
+use crate::fields::{columns, digits_number};
+use jiff_core::civil::Date;
+use std::marker::Model;
+
+/// A civil day of the years 2000 to 2099. Days are ordered as the calendar has them.
+#[derive(Clone, Copy, Debug, PartialEq, Eq, PartialOrd, Ord)]
+pub struct Day {
+    year: u16,
+    month: u8,
+    day: u8,
+}
+
+impl Model for Day {
+    ghost use Rattle.std.specs.Prelude.{ℕ, ◌≤◌, ◌≡◌, true};
+    ghost use Rattle.ali_base.specs.CivilDay.{CivilDay, is_civil_date};
+
+    ghost Value = { CivilDay };
+
+    ghost view = { λ d. record { year = d.year; month = d.month; day = d.day } };
+
+    ghost invariant = { λ d. (2000 ≤ d.year) × (d.year ≤ 2099) × (is_civil_date d.year d.month d.day ≡ true) };
+
+    ghost inverse = { λ d. record { year = d.year; month = d.month; day = d.day } };
+}
+
+impl Day {
+    /// The day that six bytes write as MMDDYY, where the calendar has it.
+    pub fn read(bytes: &[u8]) -> Option<Self>
+        ensures { result ≡ day_of bytes.now }
+    {
+        if bytes.len() != 6 {
+            return None;
+        }
+        written_day(bytes)
+    }
+}
+
+// The day that six digits write.
+#[tactic(auto, unfolding(crate::specs::CivilDay::written_day))]
+fn written_day(bytes: &[u8]) -> Option<Day>
+    requires { length bytes.now ≡ 6 }
+    ensures { result ≡ written_day bytes.now }
+{
+    let month = digits_number(columns(bytes, 1, 2))?;
+    let day = digits_number(columns(bytes, 3, 4))?;
+    let year = digits_number(columns(bytes, 5, 6))?;
+    day_in_century(year as u16, month as u8, day as u8)
+}
+
+// The day of these numbers, where the calendar has it.
+fn day_in_century(year: u16, month: u8, day: u8) -> Option<Day>
+    requires { (year < 100) × (month < 100) × (day < 100) }
+    ensures { result ≡ day_in_century year month day }
+{
+    let year = 2000 + year;
+    if is_civil_date(year, month, day) {
+        Some(Day { year, month, day })
+    } else {
+        None
+    }
+}
+
+// Whether the calendar has this day.
+fn is_civil_date(year: u16, month: u8, day: u8) -> bool
+    requires { (2000 ≤ year) × (year ≤ 2099) × (month < 100) × (day < 100) }
+    ensures { result ≡ is_civil_date year month day }
+{
+    Date::new(year as i16, month as i8, day as i8).is_ok()
+}

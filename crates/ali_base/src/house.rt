@@ -1,0 +1,73 @@
+//! House numbers.
+ghost use Rattle.std.specs.Prelude.{◌≡◌, ℕ, ◌≤◌, List, length};
+ghost use Rattle.ali_base.specs.HouseNumber.{house_of, house_number, house_text};
+
+use crate::fields::{digits_number, front_trimmed, trimmed};
+use itoa::Buffer;
+use std::marker::Model;
+
+/// A house number: 0 to 999,999.
+#[derive(Clone, Copy, Debug, PartialEq, Eq, PartialOrd, Ord)]
+pub struct House {
+    number: u32,
+}
+
+impl Model for House {
+    ghost use Rattle.std.specs.Prelude.{ℕ, ◌≤◌};
+
+    ghost Value = { ℕ };
+
+    ghost view = { λ h. h.number };
+
+    ghost invariant = { λ h. h.number ≤ 999_999 };
+
+    ghost inverse = { λ n. record { number = n } };
+}
+
+impl House {
+    /// The house number in ten columns: spaces at either end are cut, nothing left is 0, and
+    /// otherwise it is digits alone, leading zeros allowed. None for any other bytes.
+    pub fn read(bytes: &[u8]) -> Option<Self>
+        ensures { result ≡ house_of bytes.now }
+    {
+        if bytes.len() != 10 {
+            return None;
+        }
+        house_in(bytes)
+    }
+
+    /// The decimal number at the left, then spaces.
+    pub fn text(self) -> [u8; 10]
+        ensures { result ≡ house_text self }
+    {
+        let mut text = [b' '; 10];
+        let mut buffer = Buffer::new();
+        let digits = buffer.format(self.number).as_bytes();
+        text[..digits.len()].copy_from_slice(digits);
+        text
+    }
+
+    /// The number, 0 to 999,999.
+    pub fn number(self) -> u32
+        ensures same { result ≡ self }
+        ensures limit { result ≤ 999_999 }
+    {
+        self.number
+    }
+}
+
+// The house number in a field.
+#[tactic(auto, unfolding(crate::specs::HouseNumber::house_number))]
+fn house_in(field: &[u8]) -> Option<House>
+    requires { length field.now ≤ 19 }
+    ensures { result ≡ house_number field.now }
+{
+    let number = digits_number(trimmed(front_trimmed(field)))?;
+    if number <= 999_999 {
+        Some(House {
+            number: number as u32,
+        })
+    } else {
+        None
+    }
+}

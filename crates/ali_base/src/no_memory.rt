@@ -1,0 +1,12 @@
+//! Want of memory.
+use std::alloc::AllocError;
+
+/// Memory ran out. Nothing else is answered by this.
+#[derive(Clone, Copy, Debug, PartialEq, Eq)]
+pub struct NoMemory;
+
+impl From<AllocError> for NoMemory {
+    fn from(_: AllocError) -> Self {
+        NoMemory
+    }
+}
