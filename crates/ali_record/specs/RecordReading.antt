@@ -1,0 +1,54 @@
+-- Reading a record: a list of conditions over the whole record, of which the first that holds decides.
+use Rattle.std.specs.Prelude.{◌≡◌, ℕ, ◌==◌, ◌&&◌, ◌||◌, Bool, not, nat_le, List, [], ◌∷◌, is_none, if◌then◌else◌}
+use Rattle.std.specs.List.{list_all}
+use Rattle.ali_base.specs.Columns.{is_printable}
+use Rattle.ali_base.specs.TelephoneNumber.{tn_of}
+use Rattle.ali_base.specs.HouseNumber.{house_of}
+use Rattle.ali_base.specs.CivilDay.{day_of}
+use Rattle.ali_record.specs.Layout.{field_of, byte_of}
+use Rattle.ali_record.specs.declared.field.Field.TheVariants.{Function, TelephoneNumber, HouseNumber, ExtractDate, ClassOfService, TypeOfService, EndMark}
+
+-- a function: I, C, D, U or M
+abbrev pub is_function : ℕ → Bool
+is_function byte = (byte == 73) || (byte == 67) || (byte == 68) || (byte == 85) || (byte == 77)
+
+-- a type of service: 0 to 9
+abbrev pub is_type_of_service : ℕ → Bool
+is_type_of_service byte = nat_le 48 byte && nat_le byte 57
+
+-- a class of service: 0 to 9 or A to Z
+abbrev pub is_class_of_service : ℕ → Bool
+is_class_of_service byte = (nat_le 48 byte && nat_le byte 57) || (nat_le 65 byte && nat_le byte 90)
+
+-- the conditions, each with its code
+unfoldable pub conditions : List ℕ → List (Bool × ℕ)
+conditions b =
+    -- the record does not end with `*`
+    (not (byte_of b EndMark == 42), 108)
+    -- a byte is not one from the space to the tilde
+    ∷ (not (list_all is_printable b), 109)
+    -- the function is none of the five
+    ∷ (not (is_function (byte_of b Function)), 101)
+    -- the function is not yet served: at this stage I alone is
+    ∷ (not (byte_of b Function == 73), 199)
+    -- the telephone number is not ten digits
+    ∷ (is_none (tn_of (field_of b TelephoneNumber)), 102)
+    -- the extract date is no civil day of 2000 to 2099
+    ∷ (is_none (day_of (field_of b ExtractDate)), 107)
+    -- the house number cannot be read
+    ∷ (is_none (house_of (field_of b HouseNumber)), 103)
+    ∷ (not (is_class_of_service (byte_of b ClassOfService)), 104)
+    ∷ (not (is_type_of_service (byte_of b TypeOfService)), 105)
+    ∷ []
+
+-- the code of the first condition that holds, or 0
+abbrev pub first_code : List (Bool × ℕ) → ℕ
+first_code [] = 0
+first_code (c ∷ cs) = if c.0 then c.1 else first_code cs
+
+-- the code of a record that is read alone; 0 where it is accepted
+unfoldable pub reading_code : List ℕ → ℕ
+reading_code b = first_code (conditions b)
+
+abbrev pub IsAccepted : List ℕ → Type 0
+IsAccepted b = reading_code b ≡ 0

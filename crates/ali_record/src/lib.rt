@@ -1,0 +1,8 @@
+//! Records of telephone numbers with their addresses, as carriers send them.
+#![tactic(auto)]
+
+mod field;
+mod record;
+
+pub use field::Field;
+pub use record::{Record, read_record};

@@ -1,0 +1,173 @@
+//! Reading a record.
+ghost use Rattle.std.specs.Prelude.{◌≡◌, ◌≢◌, ℕ, ◌+◌, ◌-◌, ◌≤◌, List, length, Some, MatchResult};
+ghost use Rattle.ali_base.specs.Columns.{trimmed, is_blank};
+ghost use Rattle.ali_base.specs.HouseNumber.{house_of};
+ghost use Rattle.ali_base.specs.CivilDay.{day_of};
+ghost use Rattle.ali_record.specs.Layout.{field_of, byte_of, field_columns};
+ghost use Rattle.ali_record.specs.RecordReading.{reading_code, is_function, is_class_of_service, is_type_of_service};
+
+use crate::field::Field;
+use ali_base::{Day, House, Tn, columns, is_blank, is_printable, trimmed};
+use std::marker::Model;
+
+/// A record that reading accepts: 512 bytes, kept as sent.
+#[derive(Drop)]
+pub struct Record {
+    bytes: [u8; 512],
+}
+
+impl Model for Record {
+    ghost use Rattle.std.specs.Prelude.{ℕ, List};
+    ghost use Rattle.ali_record.specs.RecordReading.{IsAccepted};
+
+    ghost Value = { List ℕ };
+
+    ghost view = { λ r. r.bytes };
+
+    ghost invariant = { λ r. IsAccepted r.bytes };
+}
+
+/// The record, or the code of the first condition that it breaks, tested in this order:
+///
+/// - 108: column 512 is not `*`
+/// - 109: a byte is not one from 0x20 to 0x7E
+/// - 101: the function is not I, C, D, U or M
+/// - 199: the function is not I, the only one that is served yet
+/// - 102: the telephone number is not ten digits
+/// - 107: the extract date is no civil day, written MMDDYY, of 2000 to 2099
+/// - 103: the house number cannot be read, or is above 999,999
+/// - 104: the class of service is not 0 to 9 or A to Z
+/// - 105: the type of service is not 0 to 9
+#[tactic(auto, unfolding(crate::specs::RecordReading::reading_code, crate::specs::RecordReading::conditions))]
+pub fn read_record(bytes: &[u8; 512]) -> Result<Record, u16>
+    ensures { MatchResult result
+        (λ record_read. (record_read ≡ bytes.now) × (reading_code bytes.now ≡ 0))
+        (λ code. (code ≡ reading_code bytes.now) × (code ≢ 0)) }
+{
+    if byte_of(bytes, Field::EndMark) != b'*' {
+        return Err(108);
+    }
+    if !is_printable(bytes) {
+        return Err(109);
+    }
+    if !is_function(byte_of(bytes, Field::Function)) {
+        return Err(101);
+    }
+    if byte_of(bytes, Field::Function) != b'I' {
+        return Err(199);
+    }
+    if Tn::read(field_of(bytes, Field::TelephoneNumber)).is_none() {
+        return Err(102);
+    }
+    if Day::read(field_of(bytes, Field::ExtractDate)).is_none() {
+        return Err(107);
+    }
+    if House::read(field_of(bytes, Field::HouseNumber)).is_none() {
+        return Err(103);
+    }
+    if !is_class_of_service(byte_of(bytes, Field::ClassOfService)) {
+        return Err(104);
+    }
+    if !is_type_of_service(byte_of(bytes, Field::TypeOfService)) {
+        return Err(105);
+    }
+    Ok(Record { bytes: *bytes })
+}
+
+impl Record {
+    /// The 512 bytes, as sent.
+    pub fn bytes(&self) -> &[u8; 512]
+        ensures same { result.now ≡ self.now }
+        ensures accepted { reading_code result.now ≡ 0 }
+    {
+        &self.bytes
+    }
+
+    /// The bytes of a field.
+    pub fn field(&self, field: Field) -> &[u8]
+        ensures value { result.now ≡ field_of self.now field }
+        ensures len { length result.now + (field_columns field).0 ≡ (field_columns field).1 + 1 }
+    {
+        field_of(&self.bytes, field)
+    }
+
+    /// A field without the spaces at its end.
+    pub fn text(&self, field: Field) -> &[u8]
+        ensures value { result.now ≡ trimmed (field_of self.now field) }
+        ensures len { length result.now + (field_columns field).0 ≤ (field_columns field).1 + 1 }
+    {
+        trimmed(field_of(&self.bytes, field))
+    }
+
+    /// The function, one of I, C, D, U and M.
+    pub fn function(&self) -> u8
+        ensures { result ≡ byte_of self.now Field.Function }
+    {
+        byte_of(&self.bytes, Field::Function)
+    }
+
+    /// The telephone number.
+    pub fn tn(&self) -> Tn
+        ensures { result ≡ field_of self.now Field.TelephoneNumber }
+    {
+        Tn::read(field_of(&self.bytes, Field::TelephoneNumber)).unwrap()
+    }
+
+    /// The house number: spaces at either end are cut, and nothing left is 0.
+    pub fn house(&self) -> Option<House>
+        ensures { result ≡ house_of (field_of self.now Field.HouseNumber) }
+    {
+        House::read(field_of(&self.bytes, Field::HouseNumber))
+    }
+
+    /// Whether the columns of the house number are spaces alone.
+    pub fn house_blank(&self) -> bool
+        ensures { result ≡ is_blank (field_of self.now Field.HouseNumber) }
+    {
+        is_blank(field_of(&self.bytes, Field::HouseNumber))
+    }
+
+    /// The extract date.
+    pub fn day(&self) -> Day
+        ensures { day_of (field_of self.now Field.ExtractDate) ≡ Some result }
+    {
+        Day::read(field_of(&self.bytes, Field::ExtractDate)).unwrap()
+    }
+}
+
+// The bytes of a field.
+fn field_of(bytes: &[u8; 512], field: Field) -> &[u8]
+    ensures value { result.now ≡ field_of bytes.now field }
+    ensures len { length result.now + (field_columns field).0 ≡ (field_columns field).1 + 1 }
+{
+    let (first, last) = field.columns();
+    columns(bytes, first, last)
+}
+
+// The byte of a field of one column.
+fn byte_of(bytes: &[u8; 512], field: Field) -> u8
+    ensures { result ≡ byte_of bytes.now field }
+{
+    bytes[field.columns().0 - 1]
+}
+
+// Whether the byte is a function.
+fn is_function(byte: u8) -> bool
+    ensures { result ≡ is_function byte }
+{
+    byte == b'I' || byte == b'C' || byte == b'D' || byte == b'U' || byte == b'M'
+}
+
+// Whether the byte is a class of service.
+fn is_class_of_service(byte: u8) -> bool
+    ensures { result ≡ is_class_of_service byte }
+{
+    (48 <= byte && byte <= 57) || (65 <= byte && byte <= 90)
+}
+
+// Whether the byte is a type of service.
+fn is_type_of_service(byte: u8) -> bool
+    ensures { result ≡ is_type_of_service byte }
+{
+    48 <= byte && byte <= 57
+}
