@@ -1,5 +1,5 @@
 //! Want of memory.
-use std::alloc::AllocError;
+use std::alloc::{AllocError, AllocFailed};
 
 /// Memory ran out. Nothing else is answered by this.
 #[derive(Clone, Copy, Debug, PartialEq, Eq)]
@@ -7,6 +7,12 @@ pub struct NoMemory;
 
 impl From<AllocError> for NoMemory {
     fn from(_: AllocError) -> Self {
+        NoMemory
+    }
+}
+
+impl<T: Drop> From<AllocFailed<T>> for NoMemory {
+    fn from(_: AllocFailed<T>) -> Self {
         NoMemory
     }
 }

@@ -1,0 +1,4 @@
+pub mod NumberTable
+pub mod Verdict
+pub mod History
+pub mod AnswerForm
