@@ -15,7 +15,7 @@ TakesWithin buffer Failed = Unit {0}
 -- the bytes taken were the first of what was left; the end comes where nothing was left; a failure leaves all
 abbrev pub TakesFrom : Option (List ℕ) → Option (List ℕ) → List ℕ → Taken → Type 0
 TakesFrom old new buffer (Took n) = Consumes old new (take n buffer)
-TakesFrom old new buffer End = IsAtEnd old × IsAtEnd new
+TakesFrom old new buffer End = IsAtEnd old × IsAtEnd new × Keeps old new
 TakesFrom old new buffer Failed = Keeps old new
 
 -- the count never falls, and it rises with each failure

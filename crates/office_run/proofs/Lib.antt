@@ -1,0 +1,10 @@
+pub mod NumberTexts
+pub mod SpacedWords
+pub mod AskTexts
+pub mod CommandTexts
+pub mod Scripts
+pub mod Puts
+pub mod Taking
+pub mod Answering
+pub mod Serving
+pub mod Completeness

@@ -1,0 +1,69 @@
+-- Reading a script from its front.
+use Rattle.std.specs.Prelude.{ℕ, ◌+◌, ◌^◌, ◌==◌, ◌&&◌, ◌||◌, Bool, not, nat_le, nat_lt, List, [], ◌∷◌, length, take, drop, slice_index, codes, Option, Some, None, if◌then◌else◌}
+use Rattle.std.specs.List.{position}
+use Rattle.std.specs.Str.{bytes_eq}
+use Rattle.ali_base.specs.Steps.{◌>>=◌, when}
+use Rattle.ali_base.specs.Columns.{is_space}
+use Rattle.ali_base.specs.Digits.{digits_number}
+use Rattle.ali_base.specs.TelephoneNumber.{tn_of}
+use Rattle.office_run.specs.ScriptGrammar.{Command, Line, Ask}
+
+-- one to ten bytes, the first no 0 unless it is alone
+abbrev pub is_short : List ℕ → Bool
+is_short bytes = nat_lt 0 (length bytes) && nat_le (length bytes) 10 && (not (slice_index bytes 0 == 48) || (length bytes == 1))
+
+-- a number below 2 ^ 32 without a sign or a needless leading zero
+unfoldable pub number_of : List ℕ → Option ℕ
+number_of bytes = if is_short bytes then (digits_number bytes >>= λ n. when (nat_lt n (2 ^ 32)) n) else None
+
+-- the bytes before the first space, and those after it
+unfoldable pub word_at : List ℕ → Option (List ℕ × List ℕ)
+word_at bytes = do
+  at ← position is_space bytes
+  Some (take at bytes, drop (at + 1) bytes)
+
+-- `ASK a position tn since`, without the end of its line
+unfoldable pub ask_of : List ℕ → Option Command
+ask_of bytes = do
+  word ← word_at bytes
+  node ← word_at word.1
+  position ← word_at node.1
+  number ← word_at position.1
+  p ← number_of position.0
+  tn ← tn_of number.0
+  since ← number_of number.1
+  when (bytes_eq word.0 (codes "ASK") && bytes_eq node.0 (codes "a") && nat_le 1 p && nat_le p 64) (Ask p tn since)
+
+abbrev pub is_line_end : ℕ → Bool
+is_line_end byte = byte == 10
+
+-- what stands before a place and after it, or all where there is none
+abbrev pub cut_at : Option ℕ → List ℕ → List ℕ × List ℕ
+cut_at None bytes = (bytes, [])
+cut_at (Some at) bytes = (take at bytes, drop (at + 1) bytes)
+
+-- the first line, and what is left after its end
+unfoldable pub line_at : List ℕ → List ℕ × List ℕ
+line_at bytes = cut_at (position is_line_end bytes) bytes
+
+-- an entry and what follows: the end of a line, or nothing
+abbrev pub ended : List ℕ → List ℕ → Option (Command × List ℕ)
+ended entry [] = Some (Line entry, [])
+ended entry (byte ∷ rest) = when (is_line_end byte) (Line entry, rest)
+
+-- the entry that follows `LINE`, and what is left after it and its line's end
+unfoldable pub entry_at : List ℕ → Option (Command × List ℕ)
+entry_at bytes = if nat_lt (length bytes) 512 then None else ended (take 512 bytes) (drop 512 bytes)
+
+-- the command of a first line, and what is left after it
+abbrev pub command_of_line : List ℕ × List ℕ → Option (Command × List ℕ)
+command_of_line line =
+    if bytes_eq line.0 (codes "LINE")
+    then entry_at line.1
+    else (do
+      ask ← ask_of line.0
+      Some (ask, line.1))
+
+-- the first command, and what is left after it
+unfoldable pub command_at : List ℕ → Option (Command × List ℕ)
+command_at bytes = command_of_line (line_at bytes)

@@ -1,0 +1,134 @@
+//! Reading commands.
+ghost use Rattle.std.specs.Prelude.{◌≡◌, ℕ, ◌+◌, ◌<◌, ◌≤◌, ◌==◌, List, length, Option, Some, option_map, MatchOption, IfSome};
+ghost use Rattle.std.specs.List.{position};
+ghost use Rattle.ali_base.specs.Columns.{is_space};
+ghost use Rattle.office_run.specs.ScriptGrammar as script;
+ghost use Rattle.office_run.specs.ScriptReading.{number_of, word_at, ask_of, entry_at, command_at, line_at, is_line_end};
+
+use ali_base::{Tn, digits_number};
+
+/// The request of a position.
+#[derive(Clone, Copy, Debug, PartialEq, Eq)]
+pub struct Ask {
+    /// The position that asks, 1 to 64.
+    pub position: u32,
+    pub tn: Tn,
+    /// The answer is to be after at least so many entries.
+    pub since: u32,
+}
+
+/// A command of a script.
+#[derive(Clone, Copy, Debug)]
+pub enum Command<'a> {
+    /// `LINE`, and an entry of 512 bytes, which is to be booked.
+    Line(&'a [u8; 512]),
+    /// `ASK a position tn since`
+    Ask(Ask),
+}
+
+impl<'a> Command<'a> {
+    ghost use Rattle.office_run.specs.ParsedCommand.{command_of};
+
+    /// The first command of a script, and what is left after it. None where the bytes do not begin
+    /// with a command.
+    #[tactic(auto, unfolding(crate::specs::ScriptReading::command_at))]
+    pub fn first(bytes: &'a [u8]) -> Option<(Command<'a>, &'a [u8])>
+        ensures command { option_map (λ x. (command_of x.0, x.1.now)) result ≡ command_at bytes.now }
+        ensures shorter { IfSome result (λ x. length x.1.now < length bytes.now) }
+    {
+        let (line, rest) = line_at(bytes);
+        if line == b"LINE".as_slice() {
+            let (entry, rest) = entry_at(rest)?;
+            return Some((Command::Line(entry), rest));
+        }
+        match ask_of(line) {
+            Some(ask) => Some((Command::Ask(ask), rest)),
+            None => None,
+        }
+    }
+}
+
+// A number below 2^32, without a sign or a needless leading zero.
+#[tactic(auto, unfolding(crate::specs::ScriptReading::number_of))]
+fn number_of(bytes: &[u8]) -> Option<u32>
+    ensures { result ≡ number_of bytes.now }
+{
+    if bytes.is_empty() || bytes.len() > 10 || (bytes[0] == b'0' && bytes.len() != 1) {
+        return None;
+    }
+    let value = digits_number(bytes)?;
+    if value < 1 << 32 {
+        Some(value as u32)
+    } else {
+        None
+    }
+}
+
+// The bytes before the first space, and those after it.
+#[tactic(auto, unfolding(crate::specs::ScriptReading::word_at))]
+fn word_at(bytes: &[u8]) -> Option<(&[u8], &[u8])>
+    ensures word { option_map (λ x. (x.0.now, x.1.now)) result ≡ word_at bytes.now }
+    ensures some { IfSome result (λ x. 0 < length bytes.now) }
+{
+    let at = place_of(bytes, b' ')?;
+    Some((&bytes[..at], &bytes[at + 1..]))
+}
+
+// The first line, and what is left after its end.
+#[tactic(auto, unfolding(crate::specs::ScriptReading::line_at))]
+fn line_at(bytes: &[u8]) -> (&[u8], &[u8])
+    ensures line { line_at bytes.now ≡ (result.0.now, result.1.now) }
+    ensures shorter { 0 < length result.0.now → length result.1.now < length bytes.now }
+    ensures no_longer { length result.1.now ≤ length bytes.now }
+{
+    match place_of(bytes, b'\n') {
+        Some(at) => (&bytes[..at], &bytes[at + 1..]),
+        None => (bytes, &[]),
+    }
+}
+
+// The place of the first byte that is this one.
+fn place_of(bytes: &[u8], byte: u8) -> Option<usize>
+    ensures place { result ≡ position (λ b. b == byte) bytes.now }
+    ensures inside { IfSome result (λ at. at < length bytes.now) }
+{
+    bytes.iter().position(|b| *b == byte)
+}
+
+// `ASK a position tn since`
+#[tactic(auto, unfolding(crate::specs::ScriptReading::ask_of))]
+fn ask_of(line: &[u8]) -> Option<Ask>
+    ensures ask { option_map (λ ask. script.Ask ask.position ask.tn ask.since) result ≡ ask_of line.now }
+    ensures some { IfSome result (λ ask. 0 < length line.now) }
+{
+    let (word, rest) = word_at(line)?;
+    let (node, rest) = word_at(rest)?;
+    let (position, rest) = word_at(rest)?;
+    let (tn, since) = word_at(rest)?;
+    let position = number_of(position)?;
+    let tn = Tn::read(tn)?;
+    let since = number_of(since)?;
+    if word == b"ASK".as_slice() && node == b"a".as_slice() && 1 <= position && position <= 64 {
+        Some(Ask {
+            position,
+            tn,
+            since,
+        })
+    } else {
+        None
+    }
+}
+
+// The entry that follows `LINE`, and what is left after it.
+#[tactic(auto, unfolding(crate::specs::ScriptReading::entry_at))]
+fn entry_at(bytes: &[u8]) -> Option<(&[u8; 512], &[u8])>
+    ensures line { option_map (λ x. (script.Line x.0.now, x.1.now)) result ≡ entry_at bytes.now }
+    ensures shorter { IfSome result (λ x. length x.1.now < length bytes.now) }
+{
+    let (entry, rest) = bytes.split_first_chunk::<512>()?;
+    match rest {
+        [] => Some((entry, rest)),
+        [b'\n', rest @ ..] => Some((entry, rest)),
+        _ => None,
+    }
+}

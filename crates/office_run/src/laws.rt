@@ -1,0 +1,23 @@
+//! Laws of the definitions, for whoever reads them.
+ghost use Rattle.std.specs.Prelude.{◌≡◌, ℕ, ◌↔◌, List, [], ◌++◌, Some};
+ghost use Rattle.office_run.specs.ScriptGrammar.{Command, BeginsWith, IsScript, StopsAfter};
+ghost use Rattle.office_run.specs.ScriptReading.{command_at};
+ghost use Rattle.office_run.specs.Machine.{history_after_all};
+
+/// What is read as the first command is what is spelled, and what is spelled so is read.
+pub fn commands_are_read_as_spelled()
+    ensures { (bytes : List ℕ) (command : Command) (rest : List ℕ) → (command_at bytes ≡ Some (command, rest)) ↔ BeginsWith bytes command rest }
+{}
+
+/// A script is one list of commands; what is no script stops after one list of commands; and nothing
+/// is both.
+pub fn scripts_have_one_reading()
+    ensures one_script { (bytes : List ℕ) (commands others : List Command) → IsScript bytes commands → IsScript bytes others → commands ≡ others }
+    ensures one_stop { (bytes : List ℕ) (commands others : List Command) → StopsAfter bytes commands → StopsAfter bytes others → commands ≡ others }
+    ensures not_both { (bytes : List ℕ) (commands others : List Command) → IsScript bytes commands → StopsAfter bytes others → ⊥ }
+{}
+
+/// The booked history only grows: what was booked stays, in its place.
+pub fn history_only_grows()
+    ensures { (history : List (List ℕ)) (commands : List Command) → (booked : List (List ℕ)) × (history_after_all history commands ≡ history ++ booked) }
+{}

@@ -1,0 +1,40 @@
+//! How a run ends.
+ghost use Rattle.std.specs.Prelude.{◌≡◌};
+
+/// How a run ended.
+#[derive(Clone, Copy, Debug, PartialEq, Eq)]
+pub enum Status {
+    /// The script was read to its end, and each command has its reply.
+    Done,
+    /// The words are none of the forms.
+    Usage,
+    /// The source failed.
+    SourceFault,
+    /// The sink failed, or took nothing of a piece that is not empty.
+    SinkFault,
+    /// The number of the first command that is not in the grammar, from 1.
+    Script(u32),
+    /// The script has more than 67,108,864 bytes; nothing was run.
+    TooLong,
+    /// Memory ran out.
+    NoMemory,
+}
+
+impl Status {
+    ghost use Rattle.office_run.specs.Exit.{status_number};
+
+    /// The number that the program ends with.
+    pub fn number(self) -> u8
+        ensures { result ≡ status_number self }
+    {
+        match self {
+            Status::Done => 0,
+            Status::Usage => 2,
+            Status::SourceFault => 3,
+            Status::SinkFault => 4,
+            Status::Script(_) => 5,
+            Status::TooLong => 6,
+            Status::NoMemory => 9,
+        }
+    }
+}
