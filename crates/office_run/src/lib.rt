@@ -17,3 +17,6 @@ pub use laws::{commands_are_read_as_spelled, history_only_grows, scripts_have_on
 pub use reply::{Form, Reply};
 pub use run::office;
 pub use status::Status;
+
+#[cfg(test)]
+mod tests;

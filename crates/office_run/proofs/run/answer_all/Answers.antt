@@ -18,8 +18,12 @@ returns-in-None-clause-serves g c =
 pub to-requires : goal.to-requires
 to-requires g c =
     let contents = g.K.Sink.contents in
-    omega (arith, c.requires.limit, c.loop-rest.invariant.small,
-      served_entries c.args.script.now (contents c.args.sink.now) (contents c.loop-rest.sink) c.loop-rest.rest.now c.loop-rest.office c.loop-rest.count c.loop-rest.invariant.served)
+    omega (
+      arith,
+      c.requires.limit,
+      c.loop-rest.invariant.small,
+      served_entries c.args.script.now (contents c.args.sink.now) (contents c.loop-rest.sink) c.loop-rest.rest.now c.loop-rest.office c.loop-rest.count c.loop-rest.invariant.served,
+    )
 
 pub returns-then-is_err-clause-serves : goal.returns-then-is_err-clause-serves
 returns-then-is_err-clause-serves g c =
