@@ -1,9 +1,10 @@
 -- Civil days of the years 2000 to 2099, written MMDDYY.
-use Rattle.std.specs.Prelude.{ℕ, ◌+◌, ◌==◌, ◌&&◌, Bool, nat_le, List, length, pos, Option, None, if◌then◌else◌}
+use Rattle.std.specs.Prelude.{ℕ, ◌+◌, ◌-◌, ◌==◌, ◌&&◌, Bool, nat_le, List, ◌++◌, length, pos, Option, None, if◌then◌else◌}
 use Rattle.jiff_core.specs.Calendar.{days_in_month}
 use Rattle.ali_base.specs.Steps.{◌>>=◌, when}
 use Rattle.ali_base.specs.Columns.{columns}
 use Rattle.ali_base.specs.Digits.{digits_number}
+use Rattle.ali_base.specs.Numbers.{zero_padded}
 
 pub record CivilDay : Type 0 where
   pub year : ℕ
@@ -29,3 +30,7 @@ written_day bytes = do
 -- the day that these bytes are
 abbrev pub day_of : List ℕ → Option CivilDay
 day_of bytes = if length bytes == 6 then written_day bytes else None
+
+-- six digits: the month, the day, and the year's last two digits
+abbrev pub day_text : CivilDay → List ℕ
+day_text d = zero_padded 2 d.month ++ zero_padded 2 d.day ++ zero_padded 2 (d.year - 2000)

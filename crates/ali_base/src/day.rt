@@ -1,8 +1,10 @@
 //! Civil days.
 ghost use Rattle.std.specs.Prelude.{◌≡◌, ℕ, ◌≤◌, ◌<◌, List, length};
-ghost use Rattle.ali_base.specs.CivilDay.{day_of, written_day, day_in_century, is_civil_date};
+ghost use Rattle.ali_base.specs.Numbers.{zero_padded};
+ghost use Rattle.ali_base.specs.CivilDay.{day_of, day_text, written_day, day_in_century, is_civil_date};
 
 use crate::fields::{columns, digits_number};
+use crate::numbers::write_zero_padded;
 use jiff_core::civil::Date;
 use std::marker::Model;
 
@@ -15,14 +17,14 @@ pub struct Day {
 }
 
 impl Model for Day {
-    ghost use Rattle.std.specs.Prelude.{ℕ, ◌≤◌, ◌≡◌, true};
+    ghost use Rattle.std.specs.Prelude.{◌<◌, ◌≤◌, ◌≡◌, true};
     ghost use Rattle.ali_base.specs.CivilDay.{CivilDay, is_civil_date};
 
     ghost Value = { CivilDay };
 
     ghost view = { λ d. record { year = d.year; month = d.month; day = d.day } };
 
-    ghost invariant = { λ d. (2000 ≤ d.year) × (d.year ≤ 2099) × (is_civil_date d.year d.month d.day ≡ true) };
+    ghost invariant = { λ d. (2000 ≤ d.year) × (d.year ≤ 2099) × (d.month < 100) × (d.day < 100) × (is_civil_date d.year d.month d.day ≡ true) };
 
     ghost inverse = { λ d. record { year = d.year; month = d.month; day = d.day } };
 }
@@ -37,6 +39,26 @@ impl Day {
         }
         written_day(bytes)
     }
+
+    /// The day as MMDDYY.
+    pub fn text(self) -> [u8; 6]
+        ensures { result ≡ day_text self }
+    {
+        let [m1, m2] = two_digits(self.month);
+        let [d1, d2] = two_digits(self.day);
+        let [y1, y2] = two_digits((self.year - 2000) as u8);
+        [m1, m2, d1, d2, y1, y2]
+    }
+}
+
+// The two digits of a number.
+fn two_digits(number: u8) -> [u8; 2]
+    requires { number < 100 }
+    ensures { result ≡ zero_padded 2 number }
+{
+    let mut text = [0; 2];
+    write_zero_padded(&mut text, u32::from(number));
+    text
 }
 
 // The day that six digits write.
