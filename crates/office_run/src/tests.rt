@@ -1,8 +1,9 @@
 //! Worked scripts, and runs in which the source or the sink fails.
 ghost use Rattle.std.specs.Prelude.{◌+◌, ◌≤◌, length};
 
-use crate::{Status, office};
+use crate::{Command, Reply, Status, office};
 use ali_base::{MemSink, MemSource, Source, Taken};
+use office_state::{Office, Verdict};
 use std::alloc::Global;
 use std::test::Fail;
 
@@ -80,6 +81,27 @@ fn insert_then_request(rt: HostRuntime) -> Result<(), Fail> {
     expected.extend_from_slice(FORM)?;
     assert_eq!(rt; ended.status, Status::Done);
     assert_eq!(rt; ended.sink.bytes(), expected.as_slice());
+    Ok(())
+}
+
+// With ample memory an office is made and applies entries, and commands get their replies.
+#[test]
+fn offices_and_replies_one_by_one(rt: HostRuntime) -> Result<(), Fail> {
+    let mut office = Office::new(rt.alloc())?;
+    let verdict = office.apply(&record());
+    assert_eq!(rt; verdict, Ok(Verdict { code: 0, detail: 0 }));
+    assert_eq!(rt; office.entries(), 1);
+    let second = record();
+    let booked = Reply::to(&mut office, &Command::Line(&second))?;
+    assert!(rt;
+        matches!(
+            booked,
+            Reply::Booked {
+                number: 2,
+                code: 301
+            }
+        )
+    );
     Ok(())
 }
 
