@@ -13,3 +13,7 @@ pub mod MemorySource
 pub mod MemorySink
 pub mod StdStreams
 pub mod WholePuts
+pub mod Parity
+pub mod StreetKey
+pub mod StreetGuide
+pub mod Placement

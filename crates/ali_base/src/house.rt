@@ -1,5 +1,6 @@
 //! House numbers.
-ghost use Rattle.std.specs.Prelude.{◌≡◌, ℕ, ◌≤◌, List, length};
+ghost use Rattle.std.specs.Prelude.{◌≡◌, ℕ, ◌≤◌, nat_le, List, length};
+ghost use Rattle.ali_base.specs.Steps.{when};
 ghost use Rattle.ali_base.specs.HouseNumber.{house_of, house_number, house_text};
 
 use crate::fields::{digits_number, front_trimmed, trimmed};
@@ -25,6 +26,17 @@ impl Model for House {
 }
 
 impl House {
+    /// The house number of this number, 0 to 999,999.
+    pub fn new(number: u32) -> Option<Self>
+        ensures { result ≡ when (nat_le number 999_999) number }
+    {
+        if number <= 999_999 {
+            Some(House { number })
+        } else {
+            None
+        }
+    }
+
     /// The house number in ten columns: spaces at either end are cut, nothing left is 0, and
     /// otherwise it is digits alone, leading zeros allowed. None for any other bytes.
     pub fn read(bytes: &[u8]) -> Option<Self>

@@ -13,9 +13,12 @@ mod memory_source;
 mod names;
 mod no_memory;
 mod numbers;
+mod parity;
+mod range;
 mod sink;
 mod source;
 mod std_streams;
+mod street_key;
 mod tn;
 mod whole_puts;
 
@@ -31,9 +34,12 @@ pub use memory_source::MemSource;
 pub use names::{DiskName, NodeName};
 pub use no_memory::NoMemory;
 pub use numbers::{fixed_number, write_zero_padded};
+pub use parity::Parity;
+pub use range::Range;
 pub use sink::{Put, Sink};
 pub use source::{Source, Taken};
 pub use std_streams::{ReaderSource, WriterSink};
+pub use street_key::StreetKey;
 pub use tn::Tn;
 pub use whole_puts::{SinkFault, put_all};
 

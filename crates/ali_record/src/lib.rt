@@ -1,6 +1,7 @@
 //! Records of telephone numbers with their addresses, as carriers send them.
 #![tactic(auto)]
 
+mod address;
 mod field;
 mod record;
 

@@ -1,0 +1,36 @@
+//! The address check.
+ghost use Rattle.std.specs.Prelude.{◌≡◌, IsSome, Some};
+ghost use Rattle.ali_base.specs.HouseNumber.{house_of};
+ghost use Rattle.ali_record.specs.Layout.{field_of};
+ghost use Rattle.address_check.specs.RecordPlace.{place_of_record};
+
+use crate::esn_columns::agrees;
+use ali_base::Esn;
+use ali_record::{Field, Record};
+use msag_ranges::Guide;
+
+/// The id and the ESN of the range that holds the record's address, or a code:
+///
+/// - 201: no range has the street
+/// - 202: a range has the street, none holds the number, and none has it between its ends
+/// - 203: none holds the number, and one of the street has it between its ends
+/// - 204: a range holds it, and the ESN sent is not blank and not the range's
+///
+/// A blank ESN agrees with each range's.
+pub fn check(guide: &Guide, rec: &Record) -> Result<(u32, Esn), u16>
+    requires { IsSome (house_of (field_of rec.now Field.HouseNumber)) }
+    ensures { Some result ≡ place_of_record guide.now.ranges rec.now }
+{
+    let key = rec.key();
+    let house = rec.house().unwrap();
+    match guide.holder_of(&key, house) {
+        Some(range) => {
+            if agrees(rec.field(Field::Esn), range.esn) {
+                Ok((range.id, range.esn))
+            } else {
+                Err(204)
+            }
+        }
+        None => Err(guide.nearest_fault(&key, house)),
+    }
+}

@@ -1,0 +1,3 @@
+pub mod Streets
+pub mod Overlapping
+pub mod GuideKept
