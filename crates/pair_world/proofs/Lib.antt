@@ -1,0 +1,16 @@
+pub mod Parts
+pub mod Lists
+pub mod Deliveries
+pub mod Moves
+pub mod Worlds
+pub mod Doubts
+pub mod Schedules
+pub mod NineParts
+pub mod Duties
+pub mod Origins
+pub mod WorkedRuns
+pub mod Limiting
+pub mod Terms
+pub mod SoundSteps
+pub mod NeededRuns
+pub mod OtherParts

@@ -1,0 +1,346 @@
+-- The worlds that lack one part have the others.
+use Rattle.std.proofs.Common.{◌≡◌, ℕ, zero, suc, ◌<◌, ◌≤◌, ◌⊎◌, inl, inr, false, List, [], ◌∷◌, refl, ap, sym, ◌∙◌, subst, arith, Option, Some}
+use Rattle.std.specs.Prelude.{slice_get}
+use Rattle.ali_base.specs.declared.names.NodeName.{NodeName}
+use Rattle.ali_base.specs.declared.names.NodeName.TheVariants.{A, B}
+use Rattle.ali_base.specs.declared.duty.Mode.{Mode}
+use Rattle.ali_base.specs.declared.duty.Mode.TheVariants.{Both, Alone}
+use Rattle.pair_world.specs.Frames.{Frame, epoch_at, Begins, Shares, Agree, Rising, Legal, In}
+use Rattle.pair_world.specs.World.{other, Shipment, Ack, Message, Ships, Acks, Resolved, term_from, holder_journal, other_journal, known}
+use Rattle.pair_world.specs.SoundWorld.{IsBooked, IsMirrored, HasOldSuffix, Named, NamesOne, IsInTime, IsCurrent, HasEnd, IsAcknowledged}
+use Rattle.pair_world.specs.WorkedSchedules.{framed}
+use Rattle.pair_world.specs.NeededParts.{Booked, Mirrored, Following, In_time, Current, Acknowledged, Known, Floored, HasOthers, not_due, not_mirrored, young_suffix, early_ack, not_current, not_stored, high_floor}
+use Rattle.pair_world.proofs.Lists.{Shares-none, Shares-less, Begins-refl, Begins-Agree, Agree-sym}
+
+not_here : {X : Type 0} (x : X) (k : ℕ) → slice_get {X = X} [] k ≡ Some x → ⊥
+not_here x k is = absurd (cc)
+
+no_mode : {X : Type 0} → Both ≡ Alone → X
+no_mode is = absurd (cc)
+
+no_mode' : {X : Type 0} → Alone ≡ Both → X
+no_mode' is = absurd (cc)
+
+module _ {E : Type 0} where
+  rising_none : (top : ℕ) → Rising {E = E} top []
+  rising_none top = record { never_fall = λ j k le within. fall j k le within; below = λ k within. low k within }
+    where
+      fall : (j k : ℕ) → j ≤ k → k ≤ 0 → epoch_at {E = E} [] j ≤ epoch_at {E = E} [] k
+      fall zero k le within = omega arith
+      fall (suc j) k le within = absurd (omega arith)
+
+      low : (k : ℕ) → k ≤ 0 → epoch_at {E = E} [] k ≤ top
+      low zero within = omega arith
+      low (suc k) within = absurd (omega arith)
+
+  rising_one : (top : ℕ) (f : Frame E) → f.epoch ≤ top → Rising top (f ∷ [])
+  rising_one top f less = record { never_fall = λ j k le within. fall j k le within; below = λ k within. low k within }
+    where
+      fall : (j k : ℕ) → j ≤ k → k ≤ 1 → epoch_at (f ∷ []) j ≤ epoch_at (f ∷ []) k
+      fall zero k le within = omega arith
+      fall (suc j) zero le within = absurd (omega arith)
+      fall (suc zero) (suc zero) le within = omega arith
+      fall (suc zero) (suc (suc k)) le within = absurd (omega arith)
+      fall (suc (suc j)) (suc k) le within = absurd (omega arith)
+
+      low : (k : ℕ) → k ≤ 1 → epoch_at (f ∷ []) k ≤ top
+      low zero within = omega arith
+      low (suc zero) within = less
+      low (suc (suc k)) within = absurd (omega arith)
+
+  begins_none : (xs : List (Frame E)) → Begins xs []
+  begins_none xs = record { front = refl }
+
+  agree_none : (xs : List (Frame E)) → Agree xs []
+  agree_none xs = Begins-Agree (begins_none xs)
+
+  none_agree : (xs : List (Frame E)) → Agree [] xs
+  none_agree xs = Agree-sym (agree_none xs)
+
+  agree_self : (xs : List (Frame E)) → Agree xs xs
+  agree_self xs = Begins-Agree (Begins-refl xs)
+
+  past_one : (f g : Frame E) (k : ℕ) → slice_get (f ∷ []) (suc k) ≡ Some g → ⊥
+  past_one f g k is = not_here g k is
+
+  only : (m n : Message E) → In (m ∷ []) n → m ≡ n
+  only m n i = by_place i.0 i.1
+    where
+      by_place : (k : ℕ) → slice_get (m ∷ []) k ≡ Some n → m ≡ n
+      by_place zero is = cc
+      by_place (suc k) is = absurd (not_here n k is)
+
+  no_message : (n : Message E) → In [] n → ⊥
+  no_message n i = not_here n i.0 i.1
+
+  not_ack : (x : Shipment E) (a : Ack) → ◌≡◌ {A = Message E} (Ships x) (Acks a) → ⊥
+  not_ack x a is = absurd (cc)
+
+  same_shipment : (x y : Shipment E) → ◌≡◌ {A = Message E} (Ships x) (Ships y) → x ≡ y
+  same_shipment x y is = cc
+
+  same_ack : (a c : Ack) → ◌≡◌ {A = Message E} (Acks a) (Acks c) → a ≡ c
+  same_ack a c is = cc
+
+  same_frame : (f g : Frame E) → ◌≡◌ {A = Option (Frame E)} (Some f) (Some g) → f ≡ g
+  same_frame f g is = cc
+
+  -- all that is named stands in one list
+  names_in : (all holders others : List (Frame E)) (messages : List (Message E)) → ((k : ℕ) (f : Frame E) → Named holders others messages k f → slice_get all k ≡ Some f) → NamesOne holders others messages
+  names_in all holders others messages told k f g nf ng same = same_frame f g (sym (told k f nf) ∙ told k g ng)
+
+  no_shipment : (messages : List (Message E)) → ((x : Shipment E) → In messages (Ships x) → ⊥) → (holders others all : List (Frame E)) → ((k : ℕ) (f : Frame E) → slice_get holders k ≡ Some f → slice_get all k ≡ Some f) → ((k : ℕ) (f : Frame E) → slice_get others k ≡ Some f → slice_get all k ≡ Some f) → NamesOne holders others messages
+  no_shipment messages none holders others all h o = names_in all holders others messages (λ k f named. by_name k f named)
+    where
+      by_name : (k : ℕ) (f : Frame E) → Named holders others messages k f → slice_get all k ≡ Some f
+      by_name k f (inl a) = h k f a
+      by_name k f (inr (inl a)) = o k f a
+      by_name k f (inr (inr m)) = absurd (none m.0 m.1)
+
+  end_none : HasEnd {E = E} 0 [] []
+  end_none = record { shares = Shares-none [] []; begins = begins_none [] }
+
+  fresh_one : (f : Frame E) (k : ℕ) → 0 < k → k ≤ 1 → epoch_at (f ∷ []) k ≡ f.epoch
+  fresh_one f zero far within = absurd (omega arith)
+  fresh_one f (suc zero) far within = refl
+  fresh_one f (suc (suc k)) far within = absurd (omega arith)
+
+  one_legal : (due : List E → E → Type 0) (f : Frame E) → due [] f.entry → Legal due (f ∷ [])
+  one_legal due f next zero g is = subst (λ (z : Frame E). due [] z.entry) (same_frame f g is) next
+  one_legal due f next (suc k) g is = absurd (past_one f g k is)
+
+  first_due : (due : List E → E → Type 0) (f : Frame E) → due [] f.entry → (g : Frame E) → slice_get (f ∷ []) 0 ≡ Some g → due [] g.entry
+  first_due due f next g is = subst (λ (z : Frame E). due [] z.entry) (same_frame f g is) next
+
+  known_top : (a b top : ℕ) (w : Resolved E) → known w A ≡ a → known w B ≡ b → a ≤ top → b ≤ top → (n : NodeName) → known w n ≤ top
+  known_top a b top w is_a is_b low_a low_b A = omega arith
+  known_top a b top w is_a is_b low_a low_b B = omega arith
+
+module _ {E : Type 0} (due : List E → E → Type 0) where
+  nothing_acked : (w : Resolved E) → w.messages ≡ [] → w.acked ≡ 0 → w.ended ≡ 0 → IsAcknowledged w
+  nothing_acked w none acked ended =
+      record {
+        acks = λ a i now. absurd (no_message (Acks a) (subst (λ ms. In ms (Acks a)) none i));
+        acked = subst (λ n. Shares n (holder_journal w) (other_journal w)) (sym acked) (Shares-none (holder_journal w) (other_journal w));
+        ended = λ place is. absurd (omega arith);
+      }
+
+  no_message_current : (w : Resolved E) → w.messages ≡ [] → (x : Shipment E) → In w.messages (Ships x) → known w (other x.sender) ≤ x.epoch → IsCurrent w x
+  no_message_current w none x i later = absurd (no_message (Ships x) (subst (λ ms. In ms (Ships x)) none i))
+
+  in_time_without : (w : Resolved E) → w.messages ≡ [] → Rising w.duty.epoch (holder_journal w) → Rising w.duty.epoch (other_journal w) → NamesOne (holder_journal w) (other_journal w) w.messages → IsInTime w
+  in_time_without w none holders others names =
+      record {
+        holders = holders;
+        others = others;
+        names = names;
+        shipments = λ x i. absurd (no_message (Ships x) (subst (λ ms. In ms (Ships x)) none i));
+        acks = λ a i. absurd (no_message (Acks a) (subst (λ ms. In ms (Acks a)) none i));
+        frames = λ x f i is. absurd (no_message (Ships x) (subst (λ ms. In ms (Ships x)) none i));
+      }
+
+  pub not_due_others : (e : E) → HasOthers due Booked (not_due e).base
+  not_due_others e =
+      let f = framed e 1 in
+      record {
+        booked = λ n. absurd (n refl);
+        mirrored = λ n both. record { holds = begins_none []; prefix = begins_none (framed e 1 ∷ []); fresh = fresh_one (framed e 1) };
+        follows = λ n alone. no_mode alone;
+        agree = λ n. agree_none (framed e 1 ∷ []);
+        in_time = λ n. in_time_without (not_due e).base refl (rising_one 1 (framed e 1) (omega arith)) (rising_none 1) (no_shipment [] (λ x i. no_message (Ships x) i) (framed e 1 ∷ []) [] (framed e 1 ∷ []) (λ k g is. is) (λ k g is. absurd (not_here g k is)));
+        current = λ n. no_message_current (not_due e).base refl;
+        acknowledged = λ n. nothing_acked (not_due e).base refl refl refl;
+        known_by = λ n. record { holder = refl; none_later = known_top 1 1 1 (not_due e).base refl refl (omega arith) (omega arith) };
+        floors = λ n. record { never_fall = tt; below = omega arith };
+        counted = refl;
+      }
+
+  pub not_mirrored_others : (e : E) → due [] e → HasOthers due Mirrored (not_mirrored e).base
+  not_mirrored_others e d =
+      record {
+        booked = λ n. record { legal = one_legal due (framed e 1) d; begins = Begins-refl (framed e 1 ∷ []); one_more = omega arith; pending_due = λ g is. absurd (past_one (framed e 1) g 0 is) };
+        mirrored = λ n. absurd (n refl);
+        follows = λ n alone. no_mode alone;
+        agree = λ n. agree_none (framed e 1 ∷ []);
+        in_time = λ n. in_time_without (not_mirrored e).base refl (rising_one 1 (framed e 1) (omega arith)) (rising_none 1) (no_shipment [] (λ x i. no_message (Ships x) i) (framed e 1 ∷ []) [] (framed e 1 ∷ []) (λ k g is. is) (λ k g is. absurd (not_here g k is)));
+        current = λ n. no_message_current (not_mirrored e).base refl;
+        acknowledged = λ n. nothing_acked (not_mirrored e).base refl refl refl;
+        known_by = λ n. record { holder = refl; none_later = known_top 1 1 1 (not_mirrored e).base refl refl (omega arith) (omega arith) };
+        floors = λ n. record { never_fall = tt; below = omega arith };
+        counted = refl;
+      }
+
+  pub young_suffix_others : (e : E) → HasOthers due Following (young_suffix e).base
+  young_suffix_others e =
+      record {
+        booked = λ n. record { legal = λ k g is. absurd (not_here g k is); begins = begins_none []; one_more = omega arith; pending_due = λ g is. absurd (not_here g 0 is) };
+        mirrored = λ n both. no_mode' both;
+        follows = λ n. absurd (n refl);
+        agree = λ n. none_agree (framed e 2 ∷ []);
+        in_time = λ n. in_time_without (young_suffix e).base refl (rising_none 2) (rising_one 2 (framed e 2) (omega arith)) (no_shipment [] (λ x i. no_message (Ships x) i) [] (framed e 2 ∷ []) (framed e 2 ∷ []) (λ k g is. absurd (not_here g k is)) (λ k g is. is));
+        current = λ n. no_message_current (young_suffix e).base refl;
+        acknowledged = λ n. nothing_acked (young_suffix e).base refl refl refl;
+        known_by = λ n. record { holder = refl; none_later = known_top 2 2 2 (young_suffix e).base refl refl (omega arith) (omega arith) };
+        floors = λ n. record { never_fall = (omega arith, tt); below = omega arith };
+        counted = (refl, refl);
+      }
+
+  pub early_ack_others : HasOthers due In_time (early_ack {E = E}).base
+  early_ack_others =
+      record {
+        booked = λ n. record { legal = λ k g is. absurd (not_here g k is); begins = begins_none []; one_more = omega arith; pending_due = λ g is. absurd (not_here g 0 is) };
+        mirrored = λ n both. no_mode' both;
+        follows = λ n alone. inl (begins_none []);
+        agree = λ n. agree_none [];
+        in_time = λ n. absurd (n refl);
+        current = λ n x i later. absurd (not_ack x (record { to = A; epoch = 3; place = 0; end = false }) (sym (only (Acks (record { to = A; epoch = 3; place = 0; end = false })) (Ships x) i)));
+        acknowledged = λ n. record {
+          acks = λ a i now. absurd (let is = ap (λ (z : Ack). z.epoch) (same_ack (record { to = A; epoch = 3; place = 0; end = false }) a (only (Acks (record { to = A; epoch = 3; place = 0; end = false })) (Acks a) i)) in omega arith);
+          acked = Shares-none [] [];
+          ended = λ place is. subst (λ k. HasEnd {E = E} k [] []) (let h : 0 ≡ place = omega arith in h) end_none;
+        };
+        known_by = λ n. record { holder = refl; none_later = known_top 2 1 2 (early_ack {E = E}).base refl refl (omega arith) (omega arith) };
+        floors = λ n. record { never_fall = (omega arith, tt); below = omega arith };
+        counted = (refl, refl);
+      }
+
+  abbrev stray : E → Shipment E
+  stray h = record { sender = A; epoch = 1; place = 1; before = 1; frame = Some (framed h 1) }
+
+  stray_names : (g h : E) → NamesOne (framed g 1 ∷ []) (framed g 1 ∷ []) (Ships (stray h) ∷ [])
+  stray_names g h = names_in (framed g 1 ∷ framed h 1 ∷ []) (framed g 1 ∷ []) (framed g 1 ∷ []) (Ships (stray h) ∷ []) (λ k f named. by_name k f named)
+    where
+      first : (k : ℕ) (f : Frame E) → slice_get (framed g 1 ∷ []) k ≡ Some f → slice_get (framed g 1 ∷ framed h 1 ∷ []) k ≡ Some f
+      first zero f is = is
+      first (suc k) f is = absurd (past_one (framed g 1) f k is)
+
+      by_message : (x : Shipment E) (k : ℕ) (f : Frame E) → stray h ≡ x → x.place ≡ k → x.frame ≡ Some f → slice_get (framed g 1 ∷ framed h 1 ∷ []) k ≡ Some f
+      by_message x k f is place frame =
+          let at : 1 ≡ k = ap (λ (z : Shipment E). z.place) is ∙ place in
+          subst (λ n. slice_get (framed g 1 ∷ framed h 1 ∷ []) n ≡ Some f) at (ap (λ (z : Shipment E). z.frame) is ∙ frame)
+
+      by_name : (k : ℕ) (f : Frame E) → Named (framed g 1 ∷ []) (framed g 1 ∷ []) (Ships (stray h) ∷ []) k f → slice_get (framed g 1 ∷ framed h 1 ∷ []) k ≡ Some f
+      by_name k f (inl a) = first k f a
+      by_name k f (inr (inl a)) = first k f a
+      by_name k f (inr (inr m)) = by_message m.0 k f (same_shipment (stray h) m.0 (only (Ships (stray h)) (Ships m.0) m.1)) m.2 m.3
+
+  is_stray : (h : E) (x : Shipment E) → In (Ships (stray h) ∷ []) (Ships x) → stray h ≡ x
+  is_stray h x i = same_shipment (stray h) x (only (Ships (stray h)) (Ships x) i)
+
+  no_ack : (h : E) (a : Ack) → In (Ships (stray h) ∷ []) (Acks a) → ⊥
+  no_ack h a i = not_ack (stray h) a (only (Ships (stray h)) (Acks a) i)
+
+  stray_in_time : (k : ℕ) (g h : E) → IsInTime (not_current k g h).base
+  stray_in_time k g h =
+      record {
+        holders = rising_one 1 (framed g 1) (omega arith);
+        others = rising_one 1 (framed g 1) (omega arith);
+        names = stray_names g h;
+        shipments = λ x i. (let is = ap (λ (z : Shipment E). z.epoch) (is_stray h x i) in omega arith);
+        acks = λ a i. absurd (no_ack h a i);
+        frames = λ x f i is. by_frame x f (is_stray h x i) is;
+      }
+    where
+      by_frame : (x : Shipment E) (f : Frame E) → stray h ≡ x → x.frame ≡ Some f → f.epoch ≤ x.epoch
+      by_frame x f is frame =
+          let told = ap (λ (z : Frame E). z.epoch) (same_frame (framed h 1) f (ap (λ (z : Shipment E). z.frame) is ∙ frame)) in
+          let now = ap (λ (z : Shipment E). z.epoch) is in
+          omega arith
+
+  stray_acked : (k : ℕ) (g h : E) → IsAcknowledged (not_current k g h).base
+  stray_acked k g h =
+      record {
+        acks = λ a i now. absurd (no_ack h a i);
+        acked = Shares-none (framed g 1 ∷ []) (framed g 1 ∷ []);
+        ended = λ place is. absurd (omega arith);
+      }
+
+  stray_booked : (k : ℕ) (g h : E) → due [] g → IsBooked due (not_current k g h).base
+  stray_booked k g h d = record { legal = one_legal due (framed g 1) d; begins = Begins-refl (framed g 1 ∷ []); one_more = omega arith; pending_due = λ f is. absurd (past_one (framed g 1) f 0 is) }
+
+  stray_mirrored : (k : ℕ) (g h : E) → IsMirrored (not_current k g h).base
+  stray_mirrored k g h = record { holds = Begins-refl (framed g 1 ∷ []); prefix = Begins-refl (framed g 1 ∷ []); fresh = λ n far within. absurd (omega arith) }
+
+  pub not_current_others : (g h : E) → due [] g → HasOthers due Current (not_current 1 g h).base
+  not_current_others g h d =
+      record {
+        booked = λ n. stray_booked 1 g h d;
+        mirrored = λ n both. stray_mirrored 1 g h;
+        follows = λ n alone. no_mode alone;
+        agree = λ n. agree_self (framed g 1 ∷ []);
+        in_time = λ n. stray_in_time 1 g h;
+        current = λ n. absurd (n refl);
+        acknowledged = λ n. stray_acked 1 g h;
+        known_by = λ n. record { holder = refl; none_later = known_top 1 1 1 (not_current 1 g h).base refl refl (omega arith) (omega arith) };
+        floors = λ n. record { never_fall = tt; below = omega arith };
+        counted = refl;
+      }
+
+  pub known_later_others : (g h : E) → due [] g → HasOthers due Known (not_current 2 g h).base
+  known_later_others g h d =
+      record {
+        booked = λ n. stray_booked 2 g h d;
+        mirrored = λ n both. stray_mirrored 2 g h;
+        follows = λ n alone. no_mode alone;
+        agree = λ n. agree_self (framed g 1 ∷ []);
+        in_time = λ n. stray_in_time 2 g h;
+        current = λ n x i later. absurd (stale x (is_stray h x i) later);
+        acknowledged = λ n. stray_acked 2 g h;
+        known_by = λ n. absurd (n refl);
+        floors = λ n. record { never_fall = tt; below = omega arith };
+        counted = refl;
+      }
+    where
+      stale : (x : Shipment E) → stray h ≡ x → known (not_current 2 g h).base (other x.sender) ≤ x.epoch → ⊥
+      stale x is later = subst (λ (z : Shipment E). known (not_current 2 g h).base (other z.sender) ≤ z.epoch → ⊥) is (λ low. absurd (omega arith)) later
+
+  pub not_stored_others : (e : E) → due [] e → HasOthers due Acknowledged (not_stored e).base
+  not_stored_others e d =
+      record {
+        booked = λ n. record { legal = λ k g is. absurd (not_here g k is); begins = begins_none (framed e 1 ∷ []); one_more = omega arith; pending_due = first_due due (framed e 1) d };
+        mirrored = λ n both. record { holds = begins_none []; prefix = begins_none (framed e 1 ∷ []); fresh = fresh_one (framed e 1) };
+        follows = λ n alone. no_mode alone;
+        agree = λ n. agree_none (framed e 1 ∷ []);
+        in_time = λ n. in_time_without (not_stored e).base refl (rising_one 1 (framed e 1) (omega arith)) (rising_none 1) (no_shipment [] (λ x i. no_message (Ships x) i) (framed e 1 ∷ []) [] (framed e 1 ∷ []) (λ k g is. is) (λ k g is. absurd (not_here g k is)));
+        current = λ n. no_message_current (not_stored e).base refl;
+        acknowledged = λ n. absurd (n refl);
+        known_by = λ n. record { holder = refl; none_later = known_top 1 1 1 (not_stored e).base refl refl (omega arith) (omega arith) };
+        floors = λ n. record { never_fall = tt; below = omega arith };
+        counted = refl;
+      }
+
+  pub high_floor_others : (e : E) → due [] e → HasOthers due Floored (high_floor e).base
+  high_floor_others e d =
+      record {
+        booked = λ n. record { legal = λ k g is. absurd (not_here g k is); begins = begins_none (framed e 3 ∷ []); one_more = omega arith; pending_due = first_due due (framed e 3) d };
+        mirrored = λ n both. record { holds = begins_none []; prefix = begins_none (framed e 3 ∷ []); fresh = fresh_one (framed e 3) };
+        follows = λ n alone. no_mode alone;
+        agree = λ n. agree_none (framed e 3 ∷ []);
+        in_time = λ n. in_time_without (high_floor e).base refl (rising_one 3 (framed e 3) (omega arith)) (rising_none 3) (no_shipment [] (λ x i. no_message (Ships x) i) (framed e 3 ∷ []) [] (framed e 3 ∷ []) (λ k g is. is) (λ k g is. absurd (not_here g k is)));
+        current = λ n. no_message_current (high_floor e).base refl;
+        acknowledged = λ n. nothing_acked (high_floor e).base refl refl refl;
+        known_by = λ n. record { holder = refl; none_later = known_top 3 1 3 (high_floor e).base refl refl (omega arith) (omega arith) };
+        floors = λ n. absurd (n refl);
+        counted = (refl, (refl, refl));
+      }
+
+-- agreement follows from the two parts before it
+pub agreement_follows : {E : Type 0} (w : Resolved E) → (w.duty.mode ≡ Both → IsMirrored w) → (w.duty.mode ≡ Alone → Begins (holder_journal w) (other_journal w) ⊎ HasOldSuffix w) → Agree (holder_journal w) (other_journal w)
+agreement_follows {E} w both alone = by_mode w.duty.mode refl
+  where
+    by_suffix : HasOldSuffix w → Agree (holder_journal w) (other_journal w)
+    by_suffix t k left right same = elim (split k) [
+      | inl inside ↦ (Shares-less t.shared inside).front
+      | inr past ↦
+          (let here : k ≡ suc t.prefix = omega (arith, t.long) in
+          let old : epoch_at (other_journal w) k < term_from w.duty w.past = subst (λ n. epoch_at (other_journal w) n < term_from w.duty w.past) (sym here) t.old in
+          let new = (t.newer k past left).from in
+          absurd (omega arith))
+    ]
+      where
+        split : (n : ℕ) → (n ≤ t.prefix) ⊎ (t.prefix < n)
+        split n = grind arith
+
+    by_mode : (m : Mode) → w.duty.mode ≡ m → Agree (holder_journal w) (other_journal w)
+    by_mode Both is = Begins-Agree (both is).prefix
+    by_mode Alone is = elim (alone is) [ inl b ↦ Begins-Agree b | inr t ↦ by_suffix t ]

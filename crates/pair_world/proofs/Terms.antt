@@ -1,0 +1,58 @@
+-- The epochs of a term.
+use Rattle.std.proofs.Common.{◌≡◌, ℕ, zero, suc, ◌≤◌, ◌⊎◌, inl, inr, Bool, true, false, cond, List, [], ◌∷◌, refl, ap, arith, Some}
+use Rattle.std.specs.Prelude.{slice_get}
+use Rattle.ali_base.specs.declared.duty.Duty.{Duty}
+use Rattle.pair_world.specs.Frames.{In}
+use Rattle.pair_world.specs.World.{is_node, term, term_from}
+use Rattle.pair_world.specs.SoundWorld.{AreCounted}
+use Rattle.pair_world.proofs.Deliveries.{by_test}
+
+in_front : {A : Type 0} (x : A) (xs : List A) (y : A) → In (x ∷ xs) y → (x ≡ y) ⊎ In xs y
+in_front x xs y h = by_place h.0 h.1
+  where
+    by_place : (k : ℕ) → slice_get (x ∷ xs) k ≡ Some y → (x ≡ y) ⊎ In xs y
+    by_place zero e = inl (cc)
+    by_place (suc k) e = inr (k, e)
+
+not_in : {A : Type 0} (y : A) (k : ℕ) → slice_get {X = A} [] k ≡ Some y → ⊥
+not_in y k e = absurd (cc)
+
+term_low : (d : Duty) (ds : List Duty) → AreCounted d ds → term_from d ds ≤ d.epoch
+term_low d [] c = omega arith
+term_low d (b ∷ bs) c =
+    let rec = term_low b bs c.1 in
+    by_test (λ t. t ≤ d.epoch) (is_node d.holder b.holder) (term_from b bs) d.epoch (λ same. omega (arith, c.0, rec)) (λ apart. omega arith)
+
+pub term_within : (d : Duty) (ds : List Duty) (e : ℕ) → AreCounted d ds → (one : Duty) → In (term d ds) one → one.epoch ≡ e → (term_from d ds ≤ e) × (e ≤ d.epoch)
+term_within d [] e c one i is = elim (in_front d [] one i) [
+  | inl same ↦ (let k = ap (λ (z : Duty). z.epoch) same in (omega arith, omega arith))
+  | inr none ↦ absurd (not_in one none.0 none.1)
+]
+term_within d (b ∷ bs) e c one i is = by_holder (is_node d.holder b.holder) i (λ inside. term_within b bs e c.1 one inside is)
+  where
+    low : term_from b bs ≤ b.epoch
+    low = term_low b bs c.1
+
+    by_holder : (t : Bool) → In (cond t (d ∷ term b bs) (d ∷ [])) one → (In (term b bs) one → (term_from b bs ≤ e) × (e ≤ b.epoch)) → (cond t (term_from b bs) d.epoch ≤ e) × (e ≤ d.epoch)
+    by_holder true i rec = elim (in_front d (term b bs) one i) [
+      | inl same ↦ (let k = ap (λ (z : Duty). z.epoch) same in (omega (arith, low, c.0), omega arith))
+      | inr inside ↦ (let r = rec inside in (r.0, omega (arith, r.1, c.0)))
+    ]
+    by_holder false i rec = elim (in_front d [] one i) [
+      | inl same ↦ (let k = ap (λ (z : Duty). z.epoch) same in (omega arith, omega arith))
+      | inr none ↦ absurd (not_in one none.0 none.1)
+    ]
+
+pub term_has : (d : Duty) (ds : List Duty) (e : ℕ) → AreCounted d ds → term_from d ds ≤ e → e ≤ d.epoch → (one : Duty) × In (term d ds) one × (one.epoch ≡ e)
+term_has d [] e c low high = (d, (0, refl), omega arith)
+term_has d (b ∷ bs) e c low high = by_holder (is_node d.holder b.holder) low (λ low before. term_has b bs e c.1 low before)
+  where
+    split : (d.epoch ≡ e) ⊎ (e ≤ b.epoch)
+    split = grind (arith, c.0)
+
+    by_holder : (t : Bool) → cond t (term_from b bs) d.epoch ≤ e → (term_from b bs ≤ e → e ≤ b.epoch → (one : Duty) × In (term b bs) one × (one.epoch ≡ e)) → (one : Duty) × In (cond t (d ∷ term b bs) (d ∷ [])) one × (one.epoch ≡ e)
+    by_holder false low rec = (d, (0, refl), omega arith)
+    by_holder true low rec = elim split [
+      | inl now ↦ (d, (0, refl), now)
+      | inr before ↦ (let r = rec low before in (r.0, (suc r.1.0, r.1.1), r.2))
+    ]

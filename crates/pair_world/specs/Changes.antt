@@ -1,0 +1,133 @@
+-- What each event changes: the world after it, where it is done, and after a fault in it.
+use Rattle.std.specs.Prelude.{ℕ, suc, max, List, [], ◌∷◌, ◌++◌, length, take, slice_get, Some, None, Bool, true, false, if◌then◌else◌}
+use Rattle.ali_base.specs.declared.names.NodeName.{NodeName}
+use Rattle.ali_base.specs.declared.duty.Mode.{Mode}
+use Rattle.ali_base.specs.declared.duty.Duty.{Duty}
+use Rattle.pair_world.specs.Frames.{Frame, epoch_at}
+use Rattle.pair_world.specs.World.{other, is_node, Shipment, Ack, Message, Ships, Acks, NodeState, node_at, put_node, Resolved, own, holder_journal, known, with_node, recovered, second_at, put_second, World, picked_node, with_failed_duty}
+use Rattle.pair_world.specs.Deliveries.{answer, journal_after, ack_end, with_ack}
+
+-- What the holder's journal is after a write.
+abbrev pub journal_written : {E : Type 0} → Resolved E → E → List (Frame E)
+journal_written w entry = holder_journal w ++ record { entry = entry; epoch = w.duty.epoch } ∷ []
+
+-- The holder writes the entry.
+abbrev pub written : {E : Type 0} → Resolved E → E → Resolved E
+written w entry = with_node w w.duty.holder (record (own w) { journal = journal_written w entry })
+
+-- The frame after so many, or the end, with the epoch of the frame before it.
+abbrev pub shipment : {E : Type 0} → Resolved E → ℕ → Shipment E
+shipment w place =
+    record {
+      sender = w.duty.holder;
+      epoch = w.duty.epoch;
+      place = place;
+      before = epoch_at (holder_journal w) place;
+      frame = slice_get (holder_journal w) place;
+    }
+
+-- The shipment is on its way.
+abbrev pub shipped : {E : Type 0} → Resolved E → ℕ → Resolved E
+shipped w place = record w { messages = w.messages ++ Ships (shipment w place) ∷ [] }
+
+-- The receiver answers by the table, and learns the epoch of the message.
+abbrev pub taken_in : {E : Type 0} → Resolved E → Shipment E → NodeState E → Resolved E
+taken_in w x state =
+    record w {
+      nodes =
+          put_node w.nodes (other x.sender) (record state {
+            known = max state.known x.epoch;
+            journal = journal_after state.journal (answer state.journal x);
+          });
+      messages = with_ack x (ack_end (answer state.journal x)) w.messages;
+    }
+
+-- The acknowledgement of a frame counts it, that of the end counts the frames before it and the end.
+abbrev pub heard : {E : Type 0} → Resolved E → Ack → Resolved E
+heard w ack =
+    record w {
+      acked = max w.acked (if ack.end then ack.place else suc ack.place);
+      ended = max w.ended (if ack.end then suc ack.place else 0);
+    }
+
+-- The message comes.
+abbrev pub delivered : {E : Type 0} → Resolved E → Message E → Resolved E
+delivered w (Ships x) = taken_in w x (node_at w.nodes (other x.sender))
+delivered w (Acks ack) = heard w ack
+
+-- The receiver learns the epoch of the shipment, and nothing else changes.
+abbrev pub learned_of : {E : Type 0} → Resolved E → Shipment E → Resolved E
+learned_of w x =
+    with_node w (other x.sender) (record (node_at w.nodes (other x.sender)) { known = max (known w (other x.sender)) x.epoch })
+
+-- The history grows by the frame of the holder past it.
+abbrev pub booked_next : {E : Type 0} → Resolved E → Resolved E
+booked_next w = record w { booked = take (suc (length w.booked)) (holder_journal w) }
+
+-- The duty after the present one.
+abbrev pub new_duty : {E : Type 0} → Resolved E → NodeName → Mode → ℕ → Duty
+new_duty w holder mode floor = record { epoch = suc w.duty.epoch; holder = holder; mode = mode; floor = floor }
+
+-- A new duty over this history. Its holder knows it, and the two acknowledged numbers begin anew.
+abbrev pub under : {E : Type 0} → Resolved E → NodeName → Mode → List (Frame E) → Resolved E
+under w holder mode history =
+    record {
+      duty = new_duty w holder mode (length history);
+      past = w.duty ∷ w.past;
+      booked = history;
+      nodes = put_node w.nodes holder (record (node_at w.nodes holder) { known = suc w.duty.epoch });
+      messages = w.messages;
+      acked = 0;
+      ended = 0;
+    }
+
+-- The node goes down, and nothing else changes.
+abbrev pub down : {E : Type 0} → Resolved E → NodeName → Resolved E
+down w n = with_node w n (record (node_at w.nodes n) { up = false })
+
+-- The node is stopped. The acknowledged numbers are the holder's, and go with it.
+abbrev pub stopped : {E : Type 0} → Resolved E → NodeName → Resolved E
+stopped w n =
+    record w {
+      nodes = put_node w.nodes n (record (node_at w.nodes n) { up = false });
+      acked = if is_node n w.duty.holder then 0 else w.acked;
+      ended = if is_node n w.duty.holder then 0 else w.ended;
+    }
+
+-- The node starts on this one of its journals, and knows the present epoch.
+abbrev pub started : {E : Type 0} → World E → NodeName → Bool → World E
+started w n takes_second =
+    record w {
+      base =
+          with_node w.base n (record (picked_node (second_at w.second n) takes_second (node_at w.base.nodes n)) {
+            up = true;
+            known = w.base.duty.epoch;
+          });
+      second = put_second w.second n None;
+    }
+
+-- The register starts on this one of its lists.
+abbrev pub register_started : {E : Type 0} → World E → Bool → World E
+register_started w takes_second =
+    record w {
+      base = recovered (with_failed_duty w.failed_duty takes_second w.base);
+      register_up = true;
+      failed_duty = None;
+    }
+
+-- The node falls in a read, and its disk is as it was.
+abbrev pub fallen : {E : Type 0} → World E → NodeName → World E
+fallen w n = record w { base = down w.base n }
+
+-- The node falls in a write that may have left this journal.
+abbrev pub write_failed : {E : Type 0} → World E → NodeName → List (Frame E) → World E
+write_failed w n journal = record w { base = down w.base n; second = put_second w.second n (Some journal) }
+
+-- The register falls in a write that may have added this duty.
+abbrev pub register_failed : {E : Type 0} → World E → Duty → World E
+register_failed w duty = record w { register_up = false; failed_duty = Some duty }
+
+-- What a delivery makes of the receiver's journal.
+abbrev pub journal_stored : {E : Type 0} → Resolved E → Shipment E → List (Frame E)
+journal_stored w x =
+    journal_after (node_at w.nodes (other x.sender)).journal (answer (node_at w.nodes (other x.sender)).journal x)

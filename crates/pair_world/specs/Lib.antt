@@ -1,0 +1,10 @@
+pub mod Frames
+pub mod World
+pub mod Deliveries
+pub mod Changes
+pub mod Step
+pub mod SoundWorld
+pub mod FaultOrigin
+pub mod Limits
+pub mod WorkedSchedules
+pub mod NeededParts

@@ -1,0 +1,134 @@
+-- The invariant of the world: nine parts, and the worlds that have them.
+use Rattle.std.specs.Prelude.{ℕ, suc, ◌≡◌, ◌≤◌, ◌<◌, List, [], ◌∷◌, length, Option, Some, None, slice_get, ◌⊎◌, Bool, true, false}
+use Rattle.ali_base.specs.declared.names.NodeName.{NodeName}
+use Rattle.ali_base.specs.declared.duty.Mode.TheVariants.{Both, Alone}
+use Rattle.ali_base.specs.declared.duty.Duty.{Duty}
+use Rattle.pair_world.specs.Frames.{Frame, entries, epoch_at, Begins, Shares, PastAtLeast, Agree, Rising, Legal, In}
+use Rattle.pair_world.specs.World.{other, Shipment, Ack, Message, Ships, Acks, Resolved, first_duty, term_from, holder_journal, other_journal, known, is_up, with_duty, recovered, second_at, World, Choice, unrecovered, resolved}
+
+-- An epoch of the present term.
+pub record IsInTerm {E : Type 0} (w : Resolved E) (epoch : ℕ) : Type 0 where
+  pub from : term_from w.duty w.past ≤ epoch
+  pub to : epoch ≤ w.duty.epoch
+
+-- 1. The booked history is legal. The holder's journal begins with it and has at most one frame more, whose entry may
+-- be booked next.
+pub record IsBooked {E : Type 0} (due : List E → E → Type 0) (w : Resolved E) : Type 0 where
+  pub legal : Legal due w.booked
+  pub begins : Begins (holder_journal w) w.booked
+  pub one_more : length (holder_journal w) ≤ suc (length w.booked)
+  pub pending_due : (frame : Frame E) → slice_get (holder_journal w) (length w.booked) ≡ Some frame
+      → due (entries w.booked) frame.entry
+
+-- 2. In mode Both the other journal begins with the booked history and is a prefix of the holder's. A frame of the
+-- holder past the history has the present epoch.
+pub record IsMirrored {E : Type 0} (w : Resolved E) : Type 0 where
+  pub holds : Begins (other_journal w) w.booked
+  pub prefix : Begins (holder_journal w) (other_journal w)
+  pub fresh : (k : ℕ) → length w.booked < k → k ≤ length (holder_journal w) → epoch_at (holder_journal w) k ≡ w.duty.epoch
+
+-- 3. In mode Alone the other journal is a prefix of the holder's, or so: such a prefix and one frame more, which was
+-- written before the term, and all of the holder's frames past the prefix are of the term.
+pub record HasOldSuffix {E : Type 0} (w : Resolved E) : Type 0 where
+  pub prefix : ℕ
+  pub long : length (other_journal w) ≡ suc prefix
+  pub shared : Shares prefix (holder_journal w) (other_journal w)
+  pub old : epoch_at (other_journal w) (suc prefix) < term_from w.duty w.past
+  pub newer : (k : ℕ) → prefix < k → k ≤ length (holder_journal w) → IsInTerm w (epoch_at (holder_journal w) k)
+
+-- This frame stands at this place of a journal or of a message.
+abbrev pub Named : {E : Type 0} → List (Frame E) → List (Frame E) → List (Message E) → ℕ → Frame E → Type 0
+Named holders others messages place frame =
+    (slice_get holders place ≡ Some frame)
+    ⊎ ((slice_get others place ≡ Some frame)
+    ⊎ ((x : Shipment _) × In messages (Ships x) × (x.place ≡ place) × (x.frame ≡ Some frame)))
+
+-- One number and epoch name one frame.
+abbrev pub NamesOne : {E : Type 0} → List (Frame E) → List (Frame E) → List (Message E) → Type 0
+NamesOne holders others messages =
+    (place : ℕ) (f g : Frame _) → Named holders others messages place f → Named holders others messages place g
+    → f.epoch ≡ g.epoch → f ≡ g
+
+-- 5. Epochs never fall along a journal, none is above the present one, and one number and epoch name one frame.
+pub record IsInTime {E : Type 0} (w : Resolved E) : Type 0 where
+  pub holders : Rising w.duty.epoch (holder_journal w)
+  pub others : Rising w.duty.epoch (other_journal w)
+  pub names : NamesOne (holder_journal w) (other_journal w) w.messages
+  pub shipments : (x : Shipment E) → In w.messages (Ships x) → x.epoch ≤ w.duty.epoch
+  pub acks : (ack : Ack) → In w.messages (Acks ack) → ack.epoch ≤ w.duty.epoch
+  pub frames : (x : Shipment E) (frame : Frame E) → In w.messages (Ships x) → x.frame ≡ Some frame → frame.epoch ≤ x.epoch
+
+-- The sender's journal has this frame; or it has the frames before the end, and those after it are as new as the message.
+abbrev pub Tells : {E : Type 0} → List (Frame E) → Shipment E → Option (Frame E) → Type 0
+Tells journal x (Some frame) = slice_get journal x.place ≡ Some frame
+Tells journal x None = (x.place ≤ length journal) × PastAtLeast x.place x.epoch journal
+
+-- 6. A shipment that is not stale is of the holder, of its present term, and its journal is as the shipment tells.
+pub record IsCurrent {E : Type 0} (w : Resolved E) (x : Shipment E) : Type 0 where
+  pub sender : x.sender ≡ w.duty.holder
+  pub term : IsInTerm w x.epoch
+  pub tells : Tells (holder_journal w) x x.frame
+  pub before : x.before ≡ epoch_at (holder_journal w) x.place
+
+-- The other journal has the holder's frames before the end, and no uncommitted suffix.
+pub record HasEnd {E : Type 0} (place : ℕ) (holders others : List (Frame E)) : Type 0 where
+  pub shares : Shares place holders others
+  pub begins : Begins holders others
+
+-- What the acknowledgement of the frame at this place, or of the end there, says.
+abbrev pub AckHolds : {E : Type 0} → Bool → ℕ → List (Frame E) → List (Frame E) → Type 0
+AckHolds true place holders others = HasEnd place holders others
+AckHolds false place holders others = Shares (suc place) holders others
+
+-- 7. What was acknowledged in the present epoch, on its way or heard, stands in the other journal.
+pub record IsAcknowledged {E : Type 0} (w : Resolved E) : Type 0 where
+  pub acks : (ack : Ack) → In w.messages (Acks ack) → ack.epoch ≡ w.duty.epoch
+      → AckHolds ack.end ack.place (holder_journal w) (other_journal w)
+  pub acked : Shares w.acked (holder_journal w) (other_journal w)
+  pub ended : (place : ℕ) → w.ended ≡ suc place → HasEnd place (holder_journal w) (other_journal w)
+
+-- 8. The holder knows the present epoch, and no node knows a later one.
+pub record IsKnown {E : Type 0} (w : Resolved E) : Type 0 where
+  pub holder : known w w.duty.holder ≡ w.duty.epoch
+  pub none_later : (n : NodeName) → known w n ≤ w.duty.epoch
+
+-- No duty has a floor below that of the one before.
+abbrev pub FloorsRise : Duty → List Duty → Type 0
+FloorsRise duty [] = Unit {0}
+FloorsRise duty (before ∷ past) = (before.floor ≤ duty.floor) × FloorsRise before past
+
+-- 9. Floors never fall, and the present one is at most the length of the history.
+pub record HasFloors {E : Type 0} (w : Resolved E) : Type 0 where
+  pub never_fall : FloorsRise w.duty w.past
+  pub below : w.duty.floor ≤ length w.booked
+
+-- The duties begin with that of formatted disks, and each has the epoch of the one before and one.
+abbrev pub AreCounted : Duty → List Duty → Type 0
+AreCounted duty [] = duty ≡ first_duty
+AreCounted duty (before ∷ past) = (duty.epoch ≡ suc before.epoch) × AreCounted before past
+
+-- The nine parts of the invariant, of a resolved world, and what every list of duties has.
+pub record Invariant {E : Type 0} (due : List E → E → Type 0) (w : Resolved E) : Type 0 where
+  pub booked : IsBooked due w
+  pub mirrored : w.duty.mode ≡ Both → IsMirrored w
+  pub follows : w.duty.mode ≡ Alone → Begins (holder_journal w) (other_journal w) ⊎ HasOldSuffix w
+  pub agree : Agree (holder_journal w) (other_journal w)
+  pub in_time : IsInTime w
+  pub current : (x : Shipment E) → In w.messages (Ships x) → known w (other x.sender) ≤ x.epoch → IsCurrent w x
+  pub acknowledged : IsAcknowledged w
+  pub known_by : IsKnown w
+  pub floors : HasFloors w
+  pub counted : AreCounted w.duty w.past
+
+-- A sound world: each resolution has the nine parts, a node that is up has one journal, and while the register is up no
+-- change of duty is in doubt. The last three keep this over events while the register is down: under the duty before the
+-- failed change the parts hold without recovery too, and the recovery under the failed duty loses no booked entry, and
+-- that duty's holder has one journal.
+pub record IsSound {E : Type 0} (due : List E → E → Type 0) (w : World E) : Type 0 where
+  pub parts : (choice : Choice) → Invariant due (resolved choice w)
+  pub one_journal : (n : NodeName) → is_up w.base n → second_at w.second n ≡ None
+  pub one_duty : w.register_up ≡ true → w.failed_duty ≡ None
+  pub unrecovered_parts : (choice : Choice) → Invariant due (unrecovered choice w)
+  pub loses_nothing : (choice : Choice) (duty : Duty) → w.failed_duty ≡ Some duty
+      → Begins (recovered (with_duty (unrecovered choice w) duty)).booked w.base.booked
+  pub sure_taker : (duty : Duty) → w.failed_duty ≡ Some duty → second_at w.second duty.holder ≡ None
