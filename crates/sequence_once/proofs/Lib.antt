@@ -1,0 +1,9 @@
+pub mod Lists
+pub mod Order
+pub mod Companies
+pub mod Runs
+pub mod Sound
+pub mod Places
+pub mod Edits
+pub mod TooOldFiles
+pub mod Laws

@@ -1,0 +1,3 @@
+pub mod KeptCycles
+pub mod CycleStanding
+pub mod CycleReaders

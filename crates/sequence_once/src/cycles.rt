@@ -1,0 +1,309 @@
+//! The kept cycles of all companies.
+ghost use Rattle.std.specs.Prelude.{◌≡◌, ◌≢◌, ℕ, List, ◌+◌, ◌-◌, ◌^◌, ◌<◌, ◌≤◌, ◌==◌, [], length, false, find, insert, remove, slice_get, slice_range, option_map, IfOk, OnOk, OnErr, Some, Ok, Err, ◌↔◌, if◌then◌else◌};
+ghost use Rattle.std.specs.Option.{option_copied};
+ghost use Rattle.sequence_once.specs.KeptCycles.{IsSound, of_company, before_company, newest, last_of, is_last_finished, opened, after_open, after_note, codes_of};
+ghost use Rattle.sequence_once.specs.CycleStanding.{last_number, oldest_number, is_full, repeated, standing_among, standing_of};
+ghost use Rattle.sequence_once.specs.CycleReaders.{last_shown, record_of};
+ghost use Rattle.sequence_once.specs.declared.standing.Standing.TheVariants.{New};
+ghost use Rattle.sequence_once.specs.declared.standing.CycleFault.TheVariants.{TooOld};
+
+use crate::entry::Entry;
+use crate::kept::{KeptCycle, Last};
+use crate::standing::{CycleFault, Standing};
+use ali_base::{Company, Cycle, NoMemory};
+use std::alloc::Global;
+use std::marker::Model;
+
+/// The kept cycles of all companies, in the order of company and cycle: at most eight a company,
+/// one after the other, of which all but the last are finished.
+#[derive(Drop)]
+pub struct Cycles {
+    entries: Vec<Entry>,
+    known: u32,
+    companies: u32,
+}
+
+impl Model for Cycles {
+    ghost use Rattle.std.specs.Prelude.{◌≡◌};
+    ghost use Rattle.sequence_once.specs.KeptCycles.{CyclesState, IsSound, known_companies};
+
+    ghost Value = { CyclesState };
+
+    ghost view = { λ c. record { kept = c.entries.items; limit = c.companies } };
+
+    ghost invariant = { λ c. IsSound (record { kept = c.entries.items; limit = c.companies }) × (c.known ≡ known_companies c.entries.items) };
+}
+
+impl Cycles {
+    /// No cycles yet, of at most so many companies.
+    pub fn new(alloc: Global, companies: u32) -> Result<Self, NoMemory>
+        ensures { IfOk result (λ c. c ≡ record { kept = []; limit = companies }) }
+    {
+        Ok(Cycles {
+            entries: Vec::new(alloc),
+            known: 0,
+            companies,
+        })
+    }
+
+    /// What a file is to the kept cycles.
+    ///
+    /// # Errors
+    ///
+    /// `CompaniesFull` where its cycle is due and its company is one too many; `Gap` where its cycle
+    /// is above the one that is due; `Differs` where its cycle is kept with another digest; `TooOld`
+    /// where its cycle is below the oldest kept.
+    #[tactic(auto, unfolding(crate::specs::CycleStanding::standing_of))]
+    pub fn standing(
+        &self,
+        company: Company,
+        cycle: Cycle,
+        digest: &[u8; 32],
+    ) -> Result<Standing, CycleFault>
+        ensures table { result ≡ standing_of self.now company cycle digest.now }
+        ensures too_old { let oldest = oldest_number (of_company company self.now.kept) in (result ≡ Err (TooOld oldest)) ↔ (cycle < oldest) }
+        ensures sound { IsSound self.now }
+    {
+        let full = self.is_full(company);
+        standing_among(self.cycles_of(company), full, self.companies, cycle, digest)
+    }
+
+    /// Opens the next cycle of a company, whose file has so many lines and this digest; the oldest
+    /// kept cycle of the company goes where nine would stand. Room for all codes is taken here.
+    ///
+    /// # Errors
+    ///
+    /// `NoMemory`, and nothing has changed.
+    pub fn open(
+        &mut self,
+        alloc: Global,
+        company: Company,
+        cycle: Cycle,
+        count: u32,
+        digest: &[u8; 32],
+    ) -> Result<(), NoMemory>
+        requires { standing_of self.old company cycle digest.now ≡ Ok New }
+        ensures opened { OnOk result (self.new ≡ after_open self.old company cycle count digest.now) }
+        ensures last { OnOk result (last_of company self.new.kept ≡ Some (opened company cycle count digest.now)) }
+        ensures others { OnOk result ((other : List ℕ) → other ≢ company → of_company other self.new.kept ≡ of_company other self.old.kept) }
+        ensures sound { OnOk result (IsSound self.new) }
+        ensures unchanged { OnErr result (self.new ≡ self.old) }
+    {
+        let entry = Entry::new(alloc, company, cycle, count, digest)?;
+        let (from, to) = self.span(company);
+        put_cycle(&mut self.entries, from, to, entry)?;
+        self.known = count_company(self.known, to - from);
+        Ok(())
+    }
+
+    /// Notes the code of the next line of a company's last cycle, which is unfinished.
+    pub fn note(&mut self, company: Company, code: u16)
+        requires { is_last_finished (last_of company self.old.kept) ≡ false }
+        ensures noted { self.new ≡ after_note self.old company code }
+        ensures others { (other : List ℕ) → other ≢ company → of_company other self.new.kept ≡ of_company other self.old.kept }
+        ensures sound { IsSound self.new }
+    {
+        let (_, to) = self.span(company);
+        let entry = &mut self.entries[to - 1];
+        entry.note(code);
+    }
+
+    /// The codes of a company's cycle, where it is kept.
+    pub fn codes(&self, company: Company, cycle: Cycle) -> Option<&[u16]>
+        ensures { option_copied result ≡ codes_of company cycle self.now.kept }
+    {
+        let entry = find_cycle(self.cycles_of(company), cycle)?;
+        Some(entry.codes())
+    }
+
+    /// The last cycle of a company.
+    pub fn last(&self, company: Company) -> Option<Last>
+        ensures same { result ≡ option_map last_shown (last_of company self.now.kept) }
+        ensures sound { IsSound self.now }
+    {
+        let entry = self.cycles_of(company).last()?;
+        Some(Last {
+            cycle: entry.cycle(),
+            count: entry.count(),
+            noted: entry.noted(),
+        })
+    }
+
+    /// The i-th kept cycle, from 0, in the order of company and cycle.
+    pub fn kept(&self, i: u32) -> Option<KeptCycle<'_>>
+        ensures same { option_map record_of result ≡ slice_get self.now.kept i }
+        ensures sound { IsSound self.now }
+    {
+        let entry = self.entries.get(i as usize)?;
+        Some(KeptCycle {
+            company: entry.company(),
+            cycle: entry.cycle(),
+            count: entry.count(),
+            digest: entry.digest(),
+            codes: entry.codes(),
+        })
+    }
+
+    /// Forgets all cycles, as if newly made with the same limit.
+    pub fn clear(&mut self)
+        ensures { self.new ≡ record { kept = []; limit = self.old.limit } }
+    {
+        self.entries.clear();
+        self.known = 0;
+    }
+
+    // Where the cycles of the company begin and end, or would stand.
+    fn span(&self, company: Company) -> (usize, usize)
+        ensures from { result.0 ≡ length (before_company company self.now.kept) }
+        ensures to { result.1 ≡ length (before_company company self.now.kept) + length (of_company company self.now.kept) }
+        ensures within { result.1 ≤ length self.now.kept }
+        ensures sound { IsSound self.now }
+    {
+        let from = count_before(&self.entries, company);
+        (from, from + count_own(&self.entries, company))
+    }
+
+    // The cycles of the company, the oldest first.
+    fn cycles_of(&self, company: Company) -> &[Entry]
+        ensures same { result.now ≡ of_company company self.now.kept }
+        ensures sound { IsSound self.now }
+    {
+        let (from, to) = self.span(company);
+        part(&self.entries, from, to)
+    }
+
+    // Whether the company is new and there are as many as the limit.
+    fn is_full(&self, company: Company) -> bool
+        ensures { result ≡ is_full self.now company }
+    {
+        self.cycles_of(company).is_empty() && self.companies <= self.known
+    }
+}
+
+// The standing of a file among the cycles of its company.
+fn standing_among(
+    cycles: &[Entry],
+    full: bool,
+    limit: u32,
+    cycle: Cycle,
+    digest: &[u8; 32],
+) -> Result<Standing, CycleFault>
+    ensures table { result ≡ standing_among cycles.now full limit cycle digest.now }
+    ensures counted { 1 ≤ cycle }
+{
+    let (last, finished) = last_of(cycles);
+    let number = cycle.number();
+    if number == last + 1 && finished {
+        return if full {
+            Err(CycleFault::CompaniesFull(limit))
+        } else {
+            Ok(Standing::New)
+        };
+    }
+    if number > last + 1 || (!finished && number > last) {
+        return Err(CycleFault::Gap(if finished { last + 1 } else { last }));
+    }
+    match find_cycle(cycles, cycle) {
+        Some(entry) => repeated(entry, digest),
+        None => Err(CycleFault::TooOld(oldest(cycles))),
+    }
+}
+
+// The number of the last cycle and whether it is finished.
+fn last_of(cycles: &[Entry]) -> (u32, bool)
+    ensures number { result.0 ≡ last_number (newest cycles.now) }
+    ensures finished { result.1 ≡ is_last_finished (newest cycles.now) }
+    ensures low { result.0 ≤ 999_999 }
+{
+    match cycles.last() {
+        Some(entry) => (entry.cycle().number(), entry.is_finished()),
+        None => (0, true),
+    }
+}
+
+// The number of the oldest cycle, 0 of none.
+fn oldest(cycles: &[Entry]) -> u32
+    ensures { result ≡ oldest_number cycles.now }
+{
+    match cycles {
+        [entry, ..] => entry.cycle().number(),
+        [] => 0,
+    }
+}
+
+// The cycle of this number.
+fn find_cycle(cycles: &[Entry], cycle: Cycle) -> Option<&Entry>
+    ensures { option_copied result ≡ find (λ k. k.cycle == cycle) cycles.now }
+{
+    cycles.iter().find(|e| e.cycle() == cycle)
+}
+
+// The standing of a file whose cycle is kept.
+fn repeated(entry: &Entry, digest: &[u8; 32]) -> Result<Standing, CycleFault>
+    ensures { result ≡ repeated entry.now digest.now }
+{
+    if entry.digest() != digest {
+        return Err(CycleFault::Differs {
+            kept: *entry.digest(),
+            sent: *digest,
+        });
+    }
+    if entry.is_finished() {
+        Ok(Standing::Complete)
+    } else {
+        Ok(Standing::Resume(entry.noted() + 1))
+    }
+}
+
+// How many entries are of companies before this one.
+fn count_before(entries: &[Entry], company: Company) -> usize
+    ensures { result ≡ length (before_company company entries.now) }
+{
+    entries
+        .iter()
+        .filter(|e| e.company().cmp(&company).is_lt())
+        .count()
+}
+
+// How many entries are of this company.
+fn count_own(entries: &[Entry], company: Company) -> usize
+    ensures { result ≡ length (of_company company entries.now) }
+{
+    entries
+        .iter()
+        .filter(|e| e.company().cmp(&company).is_eq())
+        .count()
+}
+
+// The entries from one place to another.
+fn part(entries: &[Entry], from: usize, to: usize) -> &[Entry]
+    requires order { from ≤ to }
+    requires within { to ≤ length entries.now }
+    ensures { result.now ≡ slice_range entries.now from to }
+{
+    &entries[from..to]
+}
+
+// Puts a cycle behind those of its company, of which the oldest goes where there are eight.
+fn put_cycle(entries: &mut Vec<Entry>, from: usize, to: usize, entry: Entry) -> Result<(), NoMemory>
+    requires order { from ≤ to }
+    requires within { to ≤ length entries.old.items }
+    ensures put { OnOk result (entries.new.items ≡ (if to - from == 8 then remove (insert entries.old.items to entry) from else insert entries.old.items to entry)) }
+    ensures unchanged { OnErr result (entries.new.items ≡ entries.old.items) }
+{
+    if entries.insert(to, entry).is_err() {
+        return Err(NoMemory);
+    }
+    if to - from == 8 {
+        entries.remove(from);
+    }
+    Ok(())
+}
+
+// The number of companies after an opening of one that has so many cycles.
+fn count_company(known: u32, kept: usize) -> u32
+    requires { kept ≡ 0 → known + 1 < 2 ^ 32 }
+    ensures { result ≡ known + (if kept == 0 then 1 else 0) }
+{
+    if kept == 0 { known + 1 } else { known }
+}
