@@ -1,0 +1,4 @@
+pub mod Cutting
+pub mod Faults
+pub mod Records
+pub mod Readings

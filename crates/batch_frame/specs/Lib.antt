@@ -1,0 +1,2 @@
+pub mod CarrierFile
+pub mod FrameFault

@@ -1,0 +1,2 @@
+pub mod ErrorFile
+pub mod TextPuts

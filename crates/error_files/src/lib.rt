@@ -1,0 +1,10 @@
+//! Error files: what goes back to a carrier, with the refused records and their codes.
+#![tactic(auto)]
+
+mod parts;
+mod writing;
+
+pub use writing::{ErrorsEnd, errors_len, write_errors};
+
+#[cfg(test)]
+mod tests;

@@ -1,0 +1,90 @@
+//! Writing an error file.
+ghost use Rattle.std.specs.Prelude.{◌≡◌, ◌==◌, ℕ, ◌≤◌, not, count_by, length, OnOk, OnErr, IfOk};
+ghost use Rattle.std.specs.Io.KnownBytes.{Appends};
+ghost use Rattle.ali_base.specs.Faults.{Rose};
+ghost use Rattle.ali_base.specs.WholePuts.{AppendsPart};
+ghost use Rattle.batch_frame.specs.CarrierFile.{separated};
+ghost use Rattle.error_files.specs.ErrorFile.{error_file, refused_records};
+ghost use Rattle.error_files.specs.TextPuts.{PutsText};
+
+use crate::parts::{counted_trailer, put_record, refused_record};
+use ali_base::{Sink, SinkFault};
+use batch_frame::FileView;
+
+/// How the writing of an error file ended.
+#[derive(Clone, Copy, Debug, PartialEq, Eq)]
+pub enum ErrorsEnd {
+    /// All of it was put.
+    Done,
+    /// The sink failed, or took nothing; a front of the error file was put.
+    SinkFault,
+}
+
+/// Puts the error file of a file whose records have these codes. Takes no memory.
+pub fn write_errors<K: Sink>(file: &FileView<'_>, codes: &[u16], sink: &mut K) -> ErrorsEnd
+    requires { length codes.now ≡ file.now.count }
+    ensures bytes { PutsText (K.contents sink.old) (K.contents sink.new) (error_file file.now codes.now) result }
+    ensures later { K.faults sink.old ≤ K.faults sink.new }
+    ensures cause { result ≡ ErrorsEnd.SinkFault → Rose (K.faults sink.old) (K.faults sink.new) }
+{
+    match put_error_file(file, codes, sink) {
+        Ok(()) => ErrorsEnd::Done,
+        Err(SinkFault) => ErrorsEnd::SinkFault,
+    }
+}
+
+// Puts the header, the refused records and the trailer.
+fn put_error_file<K: Sink>(
+    file: &FileView<'_>,
+    codes: &[u16],
+    sink: &mut K,
+) -> Result<(), SinkFault>
+    requires { length codes.now ≡ file.now.count }
+    ensures whole { OnOk result (Appends (K.contents sink.old) (K.contents sink.new) (error_file file.now codes.now)) }
+    ensures part { OnErr result (AppendsPart (K.contents sink.old) (K.contents sink.new) (error_file file.now codes.now)) }
+    ensures later { K.faults sink.old ≤ K.faults sink.new }
+    ensures cause { OnErr result (Rose (K.faults sink.old) (K.faults sink.new)) }
+{
+    let separator = file.separator();
+    put_record(sink, file.header(), separator)?;
+    let count = put_refused(file, codes, sink)?;
+    let trailer = counted_trailer(file.trailer(), count);
+    put_record(sink, &trailer, separator)
+}
+
+// Puts the refused records, and counts them.
+fn put_refused<K: Sink>(file: &FileView<'_>, codes: &[u16], sink: &mut K) -> Result<u32, SinkFault>
+    requires { length codes.now ≡ file.now.count }
+    ensures count { IfOk result (λ n. (n ≡ length (refused_records file.now.records codes.now)) × (n ≤ 10_000)) }
+    ensures whole { OnOk result (Appends (K.contents sink.old) (K.contents sink.new) (separated file.now.separator (refused_records file.now.records codes.now))) }
+    ensures part { OnErr result (AppendsPart (K.contents sink.old) (K.contents sink.new) (separated file.now.separator (refused_records file.now.records codes.now))) }
+    ensures later { K.faults sink.old ≤ K.faults sink.new }
+    ensures cause { OnErr result (Rose (K.faults sink.old) (K.faults sink.new)) }
+{
+    let separator = file.separator();
+    let mut refused = 0;
+    for i in 0..file.count() {
+        let code = codes[i as usize];
+        if code != 0 {
+            let bytes = refused_record(file.records(i + 1), code);
+            put_record(sink, &bytes, separator)?;
+            refused += 1;
+        }
+    }
+    Ok(refused)
+}
+
+/// How many bytes the error file has.
+pub fn errors_len(file: &FileView<'_>, codes: &[u16]) -> usize
+    requires { length codes.now ≡ file.now.count }
+    ensures { result ≡ length (error_file file.now codes.now) }
+{
+    (count_refused(codes) + 2) * file.separator().piece_size()
+}
+
+// How many codes are not 0.
+fn count_refused(codes: &[u16]) -> usize
+    ensures { result ≡ count_by (λ code. not (code == 0)) codes.now }
+{
+    codes.iter().filter(|code| **code != 0).count()
+}
