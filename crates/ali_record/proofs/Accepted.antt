@@ -1,12 +1,14 @@
 -- What reading says of a record that it accepts.
-use Rattle.std.proofs.Common.{◌≡◌, ℕ, ◌<◌, ◌==◌, ◌&&◌, Bool, true, false, List, [], ◌∷◌, length, refl, arith, Option, Some, None, is_none, IsSome, if◌then◌else◌}
+use Rattle.std.proofs.Common.{◌≡◌, ℕ, ◌<◌, ◌==◌, ◌&&◌, Bool, true, false, List, [], ◌∷◌, length, refl, ap, ◌∙◌, not, cond, arith, Option, Some, None, is_none, IsSome, if◌then◌else◌}
 use Rattle.std.specs.List.{AllByRecursion, list_all}
 use Rattle.std.specs.Char.{is_ascii_digit}
+use Rattle.ali_base.specs.Columns.{is_printable}
+use Rattle.ali_base.specs.HouseNumber.{house_of}
 use Rattle.ali_base.specs.TelephoneNumber.{tn_of}
 use Rattle.ali_base.specs.CivilDay.{day_of}
-use Rattle.ali_record.specs.Layout.{field_of}
-use Rattle.ali_record.specs.RecordReading.{IsAccepted, reading_code, conditions, first_code}
-use Rattle.ali_record.specs.declared.field.Field.TheVariants.{TelephoneNumber, ExtractDate}
+use Rattle.ali_record.specs.Layout.{field_of, byte_of}
+use Rattle.ali_record.specs.RecordReading.{IsAccepted, reading_code, conditions, first_code, is_function, is_class_of_service, is_type_of_service}
+use Rattle.ali_record.specs.declared.field.Field.TheVariants.{Function, TelephoneNumber, HouseNumber, ExtractDate, ClassOfService, TypeOfService, EndMark}
 
 -- the first condition does not hold, and the others decide
 passes : (b : Bool) (n : ℕ) (cs : List (Bool × ℕ)) → first_code ((b, n) ∷ cs) ≡ 0 → 0 < n → (b ≡ false) × (first_code cs ≡ 0)
@@ -50,3 +52,62 @@ tn_of-same bytes tn h = by_test ((length bytes == 10) && list_all is_ascii_digit
     by_test : (b : Bool) → (if b then Some bytes else None) ≡ Some tn → tn ≡ bytes
     by_test true h = cc
     by_test false h = cc
+
+none_of : (cs : List (Bool × ℕ)) → AllByRecursion (λ c. c.0 ≡ false) cs → first_code cs ≡ 0
+none_of [] h = refl
+none_of (c ∷ cs) h = ap (λ b. cond b c.1 (first_code cs)) h.0 ∙ none_of cs h.1
+
+none_is : {A : Type 0} (o : Option A) → IsSome o → is_none o ≡ false
+none_is None h = cc
+none_is (Some x) h = refl
+
+-- a record that is like an accepted one in what the conditions read is accepted
+pub accepted-like : (b c : List ℕ) → IsAccepted b
+    → byte_of c EndMark ≡ byte_of b EndMark → list_all is_printable c ≡ true → byte_of c Function ≡ byte_of b Function
+    → field_of c TelephoneNumber ≡ field_of b TelephoneNumber → field_of c ExtractDate ≡ field_of b ExtractDate
+    → IsSome (house_of (field_of c HouseNumber))
+    → byte_of c ClassOfService ≡ byte_of b ClassOfService → byte_of c TypeOfService ≡ byte_of b TypeOfService → IsAccepted c
+unfolding reading_code conditions
+accepted-like b c h end printed function tn day house class type =
+    let old = accepted-none b h in
+    none_of (conditions c) (
+      ap (λ z. not (z == 42)) end ∙ old.0,
+      (
+        ap not printed,
+        (
+          ap (λ z. not (is_function z)) function ∙ old.1.1.0,
+          (
+            ap (λ z. not (z == 73)) function ∙ old.1.1.1.0,
+            (
+              ap (λ z. is_none (tn_of z)) tn ∙ old.1.1.1.1.0,
+              (
+                ap (λ z. is_none (day_of z)) day ∙ old.1.1.1.1.1.0,
+                (
+                  none_is (house_of (field_of c HouseNumber)) house,
+                  (
+                    ap (λ z. not (is_class_of_service z)) class ∙ old.1.1.1.1.1.1.1.0,
+                    (
+                      ap (λ z. not (is_type_of_service z)) type ∙ old.1.1.1.1.1.1.1.1.0,
+                      tt,
+                    ),
+                  ),
+                ),
+              ),
+            ),
+          ),
+        ),
+      ),
+    )
+
+-- its bytes can be printed, and its house number is read
+pub accepted-printed : (b : List ℕ) → IsAccepted b → list_all is_printable b ≡ true
+unfolding conditions
+accepted-printed b h = not_false (list_all is_printable b) (accepted-none b h).1.0
+  where
+    not_false : (x : Bool) → not x ≡ false → x ≡ true
+    not_false true h = refl
+    not_false false h = cc
+
+pub accepted-house : (b : List ℕ) → IsAccepted b → IsSome (house_of (field_of b HouseNumber))
+unfolding conditions
+accepted-house b h = some_of (house_of (field_of b HouseNumber)) (accepted-none b h).1.1.1.1.1.1.0

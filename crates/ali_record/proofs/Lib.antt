@@ -1,1 +1,4 @@
 pub mod Accepted
+pub mod Overwriting
+pub mod FieldTexts
+pub mod Rewritten

@@ -1,3 +1,4 @@
 pub mod Layout
 pub mod RecordReading
 pub mod Address
+pub mod FieldChanges

@@ -2,6 +2,7 @@
 #![tactic(auto)]
 
 mod address;
+mod changes;
 mod field;
 mod record;
 

@@ -13,7 +13,7 @@ use std::marker::Model;
 /// A record that reading accepts: 512 bytes, kept as sent.
 #[derive(Drop)]
 pub struct Record {
-    bytes: [u8; 512],
+    pub(crate) bytes: [u8; 512],
 }
 
 impl Model for Record {

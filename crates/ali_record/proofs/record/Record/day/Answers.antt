@@ -1,4 +1,4 @@
-use Rattle.std.proofs.Common.{◌≡◌, ℕ, List, Option, Some, IsSome, subst, sym, ap, ◌∙◌}
+use Rattle.std.proofs.Common.{IsSome, subst, sym, ap, ◌∙◌}
 use Rattle.ali_base.specs.CivilDay.{day_of}
 use Rattle.ali_record.proofs.Accepted.{accepted-day}
 use Rattle.ali_record.proofs.record.Record.day.Goals as goal

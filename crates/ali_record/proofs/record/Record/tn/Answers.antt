@@ -1,4 +1,4 @@
-use Rattle.std.proofs.Common.{◌≡◌, ℕ, List, Option, Some, IsSome, subst, sym, ap, ◌∙◌}
+use Rattle.std.proofs.Common.{◌≡◌, Some, IsSome, subst, sym, ap, ◌∙◌}
 use Rattle.ali_base.specs.TelephoneNumber.{tn_of}
 use Rattle.ali_record.specs.Layout.{field_of}
 use Rattle.ali_record.specs.declared.field.Field.TheVariants.{TelephoneNumber}
