@@ -195,3 +195,22 @@ some_file bytes h =
     let none = no_fault bytes h in
     let t = some_told (header_of bytes) (mapped_header _ none.header) in
     (file_in bytes (separator_of bytes) (found bytes) t.0 t.1 t.2, told bytes (separator_of bytes) (found bytes) t.1 t.0 t.2 refl refl none t.3 t.4 t.5)
+
+some_same : {A : Type 0} (x y : A) → Some x ≡ Some y → x ≡ y
+some_same x y h = cc
+
+pub one_whole_file : (bytes : List ℕ) (file other : CarrierFile) → IsRead bytes file → IsRead bytes other → file ≡ other
+one_whole_file bytes file other f g =
+    let e = one_file bytes file.header other.header file.trailer other.trailer file.records other.records file.separator other.separator f.parts g.parts in
+    let company = some_same file.company other.company (sym f.company ∙ ap (λ h. company_of (columns h 10 14)) e.1 ∙ g.company) in
+    let cycle = some_same file.cycle other.cycle (sym f.cycle ∙ ap (λ h. cycle_of (columns h 15 20)) e.1 ∙ g.cycle) in
+    let day = some_same file.day other.day (sym f.day ∙ ap (λ h. day_of (columns h 4 9)) e.1 ∙ g.day) in
+    let count = f.count ∙ ap length e.2 ∙ sym g.count in
+    ap (λ x. record file { separator = x }) e.0
+    ∙ ap (λ x. record file { separator = other.separator; header = x }) e.1
+    ∙ ap (λ x. record file { separator = other.separator; header = other.header; records = x }) e.2
+    ∙ ap (λ x. record file { separator = other.separator; header = other.header; records = other.records; trailer = x }) e.3
+    ∙ ap (λ x. record other { company = x; cycle = file.cycle; day = file.day; count = file.count }) company
+    ∙ ap (λ x. record other { cycle = x; day = file.day; count = file.count }) cycle
+    ∙ ap (λ x. record other { day = x; count = file.count }) day
+    ∙ ap (λ x. record other { count = x }) count

@@ -5,11 +5,12 @@ ghost use Rattle.batch_frame.specs.CarrierFile.{CarrierFile, IsFile, IsRecord, L
 ghost use Rattle.batch_frame.specs.FrameFault.{AreSound, IsRead, frame_fault};
 ghost use Rattle.batch_frame.specs.declared.separator.Separator.{Separator};
 
-/// Bytes have at most one reading as a file.
+/// Bytes have at most one reading as parts, and are read as at most one file.
 pub fn one_reading()
-    ensures { (bytes header head trailer tail : List ℕ) (records others : List (List ℕ)) (s t : Separator)
+    ensures parts { (bytes header head trailer tail : List ℕ) (records others : List (List ℕ)) (s t : Separator)
         → IsFile bytes s header records trailer → IsFile bytes t head others tail
         → (s ≡ t) × (header ≡ head) × (records ≡ others) × (trailer ≡ tail) }
+    ensures file { (bytes : List ℕ) (file other : CarrierFile) → IsRead bytes file → IsRead bytes other → file ≡ other }
 {}
 
 /// Parts that stand one after the other, with the last separator or without it, are read again as

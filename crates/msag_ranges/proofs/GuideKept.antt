@@ -1,5 +1,5 @@
 -- Changes keep what every guide keeps.
-use Rattle.std.proofs.Common.{◌≡◌, ◌≢◌, ℕ, ◌+◌, ◌<◌, ◌≤◌, ◌==◌, nat_lt, Bool, true, false, cond, ◌&&◌, not, List, [], ◌∷◌, ◌++◌, length, get_or, set, map, min, refl, sym, ap, subst, ◌∙◌, arith, Option, Some, None, zero, suc, ◌⊎◌, inl, inr, All, filter, find, IfSome}
+use Rattle.std.proofs.Common.{◌≡◌, ◌≢◌, ℕ, ◌+◌, ◌<◌, ◌≤◌, ◌==◌, nat_lt, Bool, true, false, cond, ◌&&◌, not, List, [], ◌∷◌, ◌++◌, length, get_or, set, map, min, refl, sym, ap, subst, ◌∙◌, arith, Option, Some, None, zero, suc, ◌⊎◌, inl, inr, All, filter, find, IfSome, Contains}
 use Rattle.std.specs.List.{AllPairs, position, position_or_len, slice_get}
 use Rattle.std.specs.Option.{option_map, option_map_or}
 use Rattle.std.proofs.lemmas.List.{length_push, get_or-set_other, length-set}
@@ -11,12 +11,17 @@ use Rattle.std.proofs.lemmas.List.Folds.{find_at}
 use Rattle.std.proofs.lemmas.Grind.{get_or-set_at}
 use Rattle.std.proofs.lemmas.Option.{slice_get-get_or, slice_get_past}
 use Rattle.std.proofs.lemmas.Bool.Decides.{nat_tests}
-use Rattle.ali_base.specs.StreetGuide.{HasSoundEnds, IsSoundGuide, MayStand, Overlap, overlaps, least, least_overlap, is_other, range_of, moved, with_moved, without}
+use Rattle.ali_base.specs.StreetGuide.{HasSoundEnds, IsSoundGuide, MayStand, Overlap, overlaps, least, least_overlap, is_other, holds, holder, range_of, moved, with_moved, without}
 use Rattle.ali_base.specs.declared.range.Range.{Range}
+use Rattle.ali_base.specs.declared.street_key.StreetKey.{StreetKey}
 use Rattle.msag_ranges.proofs.Overlapping.{overlaps-there, Overlap-swap}
 
 same_or_not : (a b : ℕ) → (a ≡ b) ⊎ (a ≢ b)
 same_or_not a b = grind arith
+
+not_true : (b : Bool) → (b ≡ true → ⊥) → b ≡ false
+not_true true h = absurd (h refl)
+not_true false h = refl
 
 same_id : (r : Range) (id : ℕ) → (r.id == id) ≡ true → r.id ≡ id
 same_id r id h = grind (arith, nat_tests)
@@ -178,3 +183,16 @@ sound-moved xs next limit id low high esn at r g place is number stands =
     subst (λ o. IfSome o (λ s. MayStand xs (moved s low high esn) (Some id))) (find-from_place p xs at r place) stands in
     let may : MayStand xs (moved r low high esn) (Some id) = subst (λ s. MayStand xs (moved s low high esn) (Some id)) (sym is) here in
     (sound-set xs next limit id at (moved r low high esn) g inside there (ap (λ s. s.id) is ∙ there r) may number, ap (λ s. set xs at (moved s low high esn)) is ∙ with_moved-set xs id at low high esn r g.rising inside there)
+
+-- no other range holds what a range of a guide holds, so the first that is found is the one
+holder-at : (xs : List Range) (key : StreetKey) (n k : ℕ) (d : Range) → AllPairs (λ r s. Overlap r s → ⊥) xs → k < length xs → holds (get_or xs k d) key n ≡ true → holder xs key n ≡ Some (get_or xs k d)
+holder-at [] key n k d apart inside h = absurd (omega arith)
+holder-at (x ∷ xs) key n zero d apart inside h = ap (λ b. cond b (Some x) (holder xs key n)) h
+holder-at (x ∷ xs) key n (suc k) d apart inside h =
+    let rest = holder-at xs key n k d (AllPairs-tail (λ r s. Overlap r s → ⊥) x xs apart) (omega arith) h in
+    let alone : holds x key n ≡ true → ⊥ = λ e. apart 0 (suc k) d (omega arith) inside (key, n, e, h) in
+    ap (λ b. cond b (Some x) (holder xs key n)) (not_true (holds x key n) alone) ∙ rest
+
+pub holder-only : (xs : List Range) (key : StreetKey) (n : ℕ) (r : Range) → AllPairs (λ r s. Overlap r s → ⊥) xs → Contains xs r → holds r key n ≡ true → holder xs key n ≡ Some r
+holder-only xs key n r apart there h =
+    holder-at xs key n there.0 r apart there.1 (subst (λ s. holds s key n ≡ true) (sym there.2) h) ∙ ap Some there.2

@@ -1,9 +1,10 @@
 //! The street guide: a list of ranges, and the id of the next one.
-ghost use Rattle.std.specs.Prelude.{◌≡◌, ℕ, ◌+◌, ◌<◌, ◌≤◌, ◌==◌, ◌&&◌, List, [], ◌∷◌, ◌++◌, length, find, position, IsSome, Some, None, IfOk, OnOk, IfErr, IfSome};
+ghost use Rattle.std.specs.Prelude.{◌≡◌, ℕ, ◌+◌, ◌<◌, ◌≤◌, ◌==◌, ◌&&◌, List, [], ◌∷◌, ◌++◌, length, find, position, IsSome, Some, None, IfOk, OnOk, IfErr, IfSome, Contains, true};
 ghost use Rattle.std.specs.List.{list_any};
 ghost use Rattle.ali_base.specs.StreetKey.{same_key};
 ghost use Rattle.std.specs.Option.{option_copied};
-ghost use Rattle.ali_base.specs.StreetGuide.{IsSoundGuide, MayStand, is_other, overlaps, is_between_ends, holder, range_of, nearest_fault, least_overlap, new_range, moved, with_moved, without};
+ghost use Rattle.ali_base.specs.StreetGuide.{IsSoundGuide, MayStand, is_other, overlaps, is_between_ends, holds, holder, range_of, nearest_fault, least_overlap, new_range, moved, with_moved, without};
+ghost use Rattle.ali_base.specs.declared.range.Range.{Range};
 ghost use Rattle.msag_ranges.specs.GuideChanges.{HasNoRoom};
 
 use crate::guide_fault::GuideFault;
@@ -62,13 +63,15 @@ impl Guide {
 
     /// The range that holds this number of this street.
     pub fn holder_of(&self, key: &StreetKey, n: House) -> Option<&Range>
-        ensures { option_copied result ≡ holder self.now.ranges key.now n }
+        ensures value { option_copied result ≡ holder self.now.ranges key.now n }
+        // Whichever range holds it is the one.
+        ensures only { (r : Range) → Contains self.now.ranges r → holds r key.now n ≡ true → option_copied result ≡ Some r }
     {
-        self.ranges.iter().find(|r| holds(r, key, n))
+        self.first_holder(key, n)
     }
 
-    /// Why no range holds this number of this street: 201 no range has the street, 203 one of the
-    /// street has the number between its ends, 202 otherwise.
+    /// Why no range holds this number of this street, asked where none does: 201 no range has the
+    /// street, 203 one of the street has the number between its ends, 202 otherwise.
     pub fn nearest_fault(&self, key: &StreetKey, n: House) -> u16
         requires { holder self.now.ranges key.now n ≡ None }
         ensures { result ≡ nearest_fault self.now.ranges key.now n }
@@ -100,7 +103,8 @@ impl Guide {
         }
     }
 
-    /// Makes room for one more range.
+    /// Makes room for one more range, so that one `add` cannot fail; nothing else changes. `Full`
+    /// comes exactly where the guide holds its limit of ranges.
     pub fn ready(&mut self) -> Result<(), GuideFault>
         ensures ok { OnOk result ((1 ≤ self.new.spare) × (length self.old.ranges < self.old.limit)) }
         ensures err { IfErr result (HasNoRoom self.old) }
@@ -116,7 +120,9 @@ impl Guide {
         Ok(())
     }
 
-    /// Adds a range, and answers its id. Takes no memory.
+    /// Adds a range, and answers its id. Takes no memory. It asks for room (`ready`), for ends that
+    /// are in order and of the parity, for numbers that no range of the street holds, and for a next
+    /// id below 4,294,967,295.
     pub fn add(&mut self, key: StreetKey, low: House, high: House, parity: Parity, esn: Esn) -> u32
         requires spare { 1 ≤ self.old.spare }
         requires stands { MayStand self.old.ranges (new_range self.old.next key low high parity esn) None }
@@ -143,7 +149,7 @@ impl Guide {
         id
     }
 
-    /// Removes the range of this id. Takes no memory.
+    /// Removes the range of this id, which is live. Takes no memory.
     pub fn remove(&mut self, id: u32)
         requires { IsSome (range_of self.old.ranges id) }
         ensures after { self.new ≡ record self.old { ranges = without self.old.ranges id; spare = self.new.spare } }
@@ -152,7 +158,9 @@ impl Guide {
         self.ranges.retain(|r| r.id != id);
     }
 
-    /// Gives the range of this id other ends and another ESN. Takes no memory.
+    /// Gives the range of this id, which is live, other ends and another ESN. Takes no memory. It asks
+    /// for ends that are in order and of the range's parity, and for numbers that no other range of
+    /// the street holds.
     pub fn set(&mut self, id: u32, low: House, high: House, esn: Esn)
         requires live { IsSome (range_of self.old.ranges id) }
         requires stands { IfSome (range_of self.old.ranges id)
@@ -176,6 +184,14 @@ impl Guide {
     {
         self.ranges.clear();
         self.next_id = 1;
+    }
+
+    // The first range that holds this number of this street.
+    fn first_holder(&self, key: &StreetKey, n: House) -> Option<&Range>
+        ensures value { option_copied result ≡ holder self.now.ranges key.now n }
+        ensures sound { IsSoundGuide self.now.ranges self.now.next self.now.limit }
+    {
+        self.ranges.iter().find(|r| holds(r, key, n))
     }
 
     // The first range, other than the one of the id `except`, that overlaps `range`.
