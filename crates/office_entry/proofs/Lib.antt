@@ -1,0 +1,7 @@
+pub mod Options
+pub mod FieldBytes
+pub mod EditsOfBytes
+pub mod NumberTexts
+pub mod Marks
+pub mod StreetTexts
+pub mod EditTexts

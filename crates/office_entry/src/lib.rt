@@ -1,0 +1,23 @@
+//! Edits of the street guide, as values, as text and as bytes.
+#![tactic(auto)]
+
+mod difference;
+mod edit;
+mod edit_key;
+mod esn_sent;
+mod fields;
+mod laws;
+mod reading;
+mod text;
+
+pub use difference::Difference;
+pub use edit::Edit;
+pub use edit_key::EditKey;
+pub use esn_sent::EsnSent;
+pub use laws::{
+    bytes_are_of_one_edit, bytes_are_read_as_written, texts_are_of_one_edit,
+    texts_are_read_as_spelled,
+};
+
+#[cfg(test)]
+mod tests;
