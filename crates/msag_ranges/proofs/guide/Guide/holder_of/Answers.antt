@@ -1,4 +1,4 @@
-use Rattle.std.proofs.Common.{◌≡◌, ◌∙◌}
+use Rattle.std.proofs.Common.{◌∙◌}
 use Rattle.msag_ranges.proofs.GuideKept.{holder-only}
 use Rattle.msag_ranges.proofs.guide.Guide.holder_of.Goals as goal
 
