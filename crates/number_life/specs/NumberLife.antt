@@ -1,0 +1,63 @@
+-- The life of a number, and the lock of its company: what each function does to a number, by how the number stands.
+use Rattle.std.specs.Prelude.{ℕ, ◌==◌, List, Option, Some, None, Result, Ok, Err, is_some, if◌then◌else◌}
+use Rattle.std.specs.Str.{bytes_eq}
+use Rattle.ali_base.specs.CivilDay.{CivilDay}
+use Rattle.ali_record.specs.Layout.{field_of}
+use Rattle.ali_record.specs.declared.field.Field.TheVariants as field
+use Rattle.number_life.specs.declared.act.LifeAct.{LifeAct}
+use Rattle.number_life.specs.declared.act.LifeAct.TheVariants as act
+use Rattle.number_life.specs.declared.function.Function.{Function}
+use Rattle.number_life.specs.declared.function.Function.TheVariants.{Insert, Change, Delete, Unlock, Migrate}
+use Rattle.number_life.specs.declared.standing.Standing.{Standing}
+use Rattle.number_life.specs.declared.standing.Standing.TheVariants.{Absent, OwnLocked, OwnUnlocked, OthersLocked, OthersUnlocked}
+use Rattle.number_life.specs.declared.row.Row.{Row}
+
+-- the function of the letter I, C, D, U or M; a record has one of these
+abbrev pub function_of : ℕ → Function
+function_of byte =
+    if byte == 73 then Insert else
+    (if byte == 67 then Change else
+    (if byte == 68 then Delete else
+    (if byte == 85 then Unlock else Migrate)))
+
+-- a row is locked until it has a day of unlocking
+abbrev pub own : Option CivilDay → Standing
+own None = OwnLocked
+own (Some day) = OwnUnlocked
+
+abbrev pub others : Option CivilDay → Standing
+others None = OthersLocked
+others (Some day) = OthersUnlocked
+
+-- the row is the company's own where its record has the same company
+abbrev pub standing_of : Option Row → List ℕ → Standing
+standing_of None company = Absent
+standing_of (Some row) company = if bytes_eq (field_of row.rec field.Company) company then own row.unlocked else others row.unlocked
+
+-- the table: the act, or the code of the refusal; day is the extract date of the record
+abbrev pub life : Function → Standing → CivilDay → Result LifeAct ℕ
+life Insert Absent day = Ok act.Store
+life Insert OwnLocked day = Err 301
+life Insert OwnUnlocked day = Err 301
+life Insert OthersLocked day = Err 302
+life Insert OthersUnlocked day = Err 302
+life Change Absent day = Err 303
+life Change OwnLocked day = Ok act.Store
+life Change OwnUnlocked day = Err 313
+life Change OthersLocked day = Err 304
+life Change OthersUnlocked day = Err 304
+life Delete Absent day = Err 305
+life Delete OwnLocked day = Ok act.Remove
+life Delete OwnUnlocked day = Err 313
+life Delete OthersLocked day = Err 306
+life Delete OthersUnlocked day = Err 306
+life Unlock Absent day = Err 307
+life Unlock OwnLocked day = Ok (act.Unlock day)
+life Unlock OwnUnlocked day = Err 309
+life Unlock OthersLocked day = Err 308
+life Unlock OthersUnlocked day = Err 308
+life Migrate Absent day = Err 310
+life Migrate OwnLocked day = Ok act.Store
+life Migrate OwnUnlocked day = Ok act.Store
+life Migrate OthersLocked day = Err 311
+life Migrate OthersUnlocked day = Ok act.Store
