@@ -1,5 +1,5 @@
 -- The life of a number, and the lock of its company: what each function does to a number, by how the number stands.
-use Rattle.std.specs.Prelude.{ℕ, ◌==◌, List, Option, Some, None, Result, Ok, Err, is_some, if◌then◌else◌}
+use Rattle.std.specs.Prelude.{ℕ, ◌==◌, List, Option, Some, None, Result, Ok, Err, if◌then◌else◌}
 use Rattle.std.specs.Str.{bytes_eq}
 use Rattle.ali_base.specs.CivilDay.{CivilDay}
 use Rattle.ali_record.specs.Layout.{field_of}

@@ -1,5 +1,5 @@
 -- A history and one entry more.
-use Rattle.std.proofs.Common.{◌≡◌, ℕ, ◌+◌, List, [], ◌∷◌, ◌++◌, length, fold, refl, ap, sym, ◌∙◌, length-append, arith}
+use Rattle.std.proofs.Common.{◌≡◌, ℕ, ◌+◌, List, [], ◌∷◌, ◌++◌, fold, refl, ap, sym, ◌∙◌, length-append, arith}
 use Rattle.office_state.specs.NumberTable.{NumberTable, no_numbers}
 use Rattle.office_state.specs.Verdict.{after}
 use Rattle.office_state.specs.History.{state, OfficeState, Represents}

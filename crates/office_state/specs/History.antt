@@ -1,5 +1,5 @@
 -- The booked history: the entries that the office accepted into its order, with the refused ones among them.
-use Rattle.std.specs.Prelude.{◌≡◌, ℕ, List, [], ◌∷◌, length, fold, refl}
+use Rattle.std.specs.Prelude.{◌≡◌, ℕ, List, length, fold, refl}
 use Rattle.std.specs.Coded.{Coded, code_by, coded×, coded_ℕ}
 use Rattle.office_state.specs.NumberTable.{NumberTable, no_numbers, coded_table}
 use Rattle.office_state.specs.Verdict.{after}

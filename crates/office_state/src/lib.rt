@@ -5,5 +5,5 @@ mod office;
 mod row;
 mod rows;
 
-pub use office::{ApplyFault, MAX_ENTRIES, Office, Verdict};
+pub use office::{ApplyFault, Office, Verdict};
 pub use row::Row;

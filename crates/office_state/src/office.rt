@@ -27,9 +27,6 @@ pub struct Verdict {
     pub detail: u64,
 }
 
-/// An office applies fewer entries than this.
-pub const MAX_ENTRIES: u32 = 4_000_000_000;
-
 /// The state after a list of entries.
 #[derive(Drop)]
 pub struct Office {
@@ -74,7 +71,8 @@ impl Office {
     }
 
     /// Applies an entry: a record of 512 bytes, which is judged, and stored as sent where it is
-    /// accepted. On want of memory the office is as before.
+    /// accepted. On want of memory the office is as before. It asks that fewer than 4,000,000,000
+    /// entries were applied.
     pub fn apply(&mut self, entry: &[u8; 512]) -> Result<Verdict, ApplyFault>
         requires { self.old.entries < 4_000_000_000 }
         ensures verdict { IfOk result (λ v. (v.code ≡ verdict self.old.table entry.now) × (v.detail ≡ 0)) }
