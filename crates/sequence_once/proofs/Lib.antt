@@ -7,3 +7,4 @@ pub mod Places
 pub mod Edits
 pub mod TooOldFiles
 pub mod Laws
+pub mod SerialCauses

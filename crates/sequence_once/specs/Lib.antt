@@ -1,3 +1,4 @@
 pub mod KeptCycles
 pub mod CycleStanding
 pub mod CycleReaders
+pub mod SerialStanding

@@ -1,16 +1,22 @@
-//! Each carrier's file once: the kept cycles of every company, and what a file is to them.
+//! Each carrier's file once: the kept cycles of every company, and what a file is to them; and each
+//! guide edit once: the last edit of every editor, and what an edit is to it.
 #![tactic(auto)]
 
 mod cycles;
 mod entry;
 mod hashing;
 mod kept;
+mod kept_edit;
+mod serials;
 mod standing;
 
 pub use cycles::Cycles;
 pub use hashing::digest;
 pub use kept::{KeptCycle, Last};
+pub use serials::Serials;
 pub use standing::{CycleFault, Standing};
 
+#[cfg(test)]
+mod serial_tests;
 #[cfg(test)]
 mod tests;

@@ -1,4 +1,4 @@
-//! The answers on a file.
+//! The answers on a file, or on a guide edit, whose serial stands in the place of a cycle.
 
 /// What a file with a cycle that is in order is to the kept cycles.
 #[derive(Clone, Copy, Debug, PartialEq, Eq)]

@@ -1,0 +1,75 @@
+-- What a guide edit is to its editor's last one, by its serial and the digest of its bytes.
+use Rattle.std.specs.Prelude.{◌≡◌, ℕ, ◌+◌, ◌-◌, ◌≤◌, ◌==◌, nat_lt, List, [], length, get_or, set, replicate, Option, Some, None, Result, Ok, Err, if◌then◌else◌}
+use Rattle.std.specs.List.{All}
+use Rattle.std.specs.Str.{bytes_eq}
+use Rattle.std.specs.Borrow.{Bor}
+use Rattle.sequence_once.specs.declared.standing.Standing.{Standing}
+use Rattle.sequence_once.specs.declared.standing.Standing.TheVariants.{New, Complete}
+use Rattle.sequence_once.specs.declared.standing.CycleFault.{CycleFault}
+use Rattle.sequence_once.specs.declared.standing.CycleFault.TheVariants.{Gap, Differs, TooOld}
+
+-- an editor's last edit: its serial, the digest of its bytes, and the code and the detail that it was answered
+pub record EditRecord : Type 0 where
+  pub serial : ℕ
+  pub digest : List ℕ
+  pub code : ℕ
+  pub detail : ℕ
+
+-- an editor: 1 to 64
+abbrev pub IsEditor : ℕ → Type 0
+IsEditor editor = (1 ≤ editor) × (editor ≤ 64)
+
+-- a serial: 1 to 999,999,999
+abbrev pub IsSerial : ℕ → Type 0
+IsSerial serial = (1 ≤ serial) × (serial ≤ 999_999_999)
+
+-- nothing, or an edit with a serial in range
+abbrev pub HasSerial : Option EditRecord → Type 0
+HasSerial None = Unit {0}
+HasSerial (Some e) = IsSerial e.serial
+
+-- what holds of all kept edits: a place for each of the 64 editors, and serials in range
+pub record AreKeptEdits (edits : List (Option EditRecord)) : Type 0 where
+  pub editors : length edits ≡ 64
+  pub serials : All HasSerial edits
+
+-- no editor has an edit yet
+abbrev pub no_edits : List (Option EditRecord)
+no_edits = replicate 64 None
+
+-- the last edit of an editor; editor 1 has the first place
+abbrev pub edit_of : ℕ → List (Option EditRecord) → Option EditRecord
+edit_of editor edits = get_or edits (editor - 1) None
+
+-- the serial of an editor's last edit, 0 before its first
+abbrev pub last_serial : Option EditRecord → ℕ
+last_serial None = 0
+last_serial (Some e) = e.serial
+
+-- the digest of an editor's last edit, empty before its first
+abbrev pub last_digest : Option EditRecord → List ℕ
+last_digest None = []
+last_digest (Some e) = e.digest
+
+-- an edit with the last serial: complete, or another digest
+abbrev pub serial_repeated : EditRecord → List ℕ → Result Standing CycleFault
+serial_repeated e digest = if bytes_eq e.digest digest then Ok Complete else Err (Differs e.digest digest)
+
+-- the standing of an edit, by its editor's last one: the serial after the last is due, and 1 before the first; the last one is repeated; a smaller one is too old; a greater one leaves a gap
+abbrev pub serial_standing : Option EditRecord → ℕ → List ℕ → Result Standing CycleFault
+serial_standing None serial digest = if serial == 1 then Ok New else Err (Gap 1)
+serial_standing (Some e) serial digest =
+    if serial == e.serial + 1
+    then Ok New
+    else (if serial == e.serial
+    then serial_repeated e digest
+    else (if nat_lt serial e.serial then Err (TooOld e.serial) else Err (Gap (e.serial + 1))))
+
+-- after an edit: it is its editor's last
+abbrev pub after_serial : List (Option EditRecord) → ℕ → ℕ → List ℕ → ℕ → ℕ → List (Option EditRecord)
+after_serial edits editor serial digest code detail =
+    set edits (editor - 1) (Some (record { serial = serial; digest = digest; code = code; detail = detail }))
+
+-- what a kept edit that is shown says
+abbrev pub edit_record : ℕ × Bor (List ℕ) × ℕ × ℕ → EditRecord
+edit_record shown = record { serial = shown.0; digest = shown.1.now; code = shown.2; detail = shown.3 }
