@@ -1,0 +1,119 @@
+-- What a row keeps when its house number or its emergency service number is written anew.
+use Rattle.std.proofs.Common.{◌≡◌, ℕ, ◌+◌, ◌≤◌, true, false, Bool, List, ◌++◌, length, take, drop, refl, ap, sym, ◌∙◌, subst, arith, Some, None, length-append, length-drop}
+use Rattle.std.specs.Option.{option_map_or}
+use Rattle.std.proofs.lemmas.List.{length-take-le}
+use Rattle.ali_base.specs.HouseNumber.{house_of, house_text}
+use Rattle.ali_base.specs.Numbers.{zero_padded}
+use Rattle.ali_base.specs.StreetGuide.{holds}
+use Rattle.ali_base.specs.StreetKey.{street_key}
+use Rattle.ali_base.specs.declared.range.Range.{Range}
+use Rattle.ali_record.specs.Layout.{field_of}
+use Rattle.ali_record.specs.Address.{record_key}
+use Rattle.ali_record.specs.FieldChanges.{with_house, with_esn}
+use Rattle.ali_record.specs.declared.field.Field.TheVariants.{HouseNumber, Esn, PrefixDirectional, StreetName, StreetSuffix, PostDirectional, Community, State}
+use Rattle.ali_record.proofs.Overwriting.{over, part_before, part_after, part_inside}
+use Rattle.ali_record.proofs.FieldTexts.{length-house_text, house_of-text, length-esn_text}
+use Rattle.std.proofs.Common.{ℤ, IsSome}
+use Rattle.ali_base.specs.Steps.{when}
+use Rattle.ali_base.specs.StreetGuide.{is_held}
+use Rattle.ali_base.specs.StreetKey.{same_key}
+use Rattle.msag_edits.specs.HouseArithmetic.{stays_house}
+use Rattle.msag_edits.proofs.Arithmetic.{stays-between}
+use Rattle.msag_edits.proofs.Ranges.{held-parts}
+use Rattle.msag_ranges.proofs.Overlapping.{both}
+use Rattle.msag_edits.specs.Rows.{holds_record, record_house}
+
+length-over : (b text : List ℕ) (p q : ℕ) → p + length text ≡ q → q ≤ length b → length (over b p q text) ≡ length b
+length-over b text p q size inside =
+    omega (arith, length-append (take p b ++ text) (drop q b), length-append (take p b) text, length-take-le p b (omega arith), length-drop q b)
+
+-- with another house number
+pub house-size : (b : List ℕ) (n : ℕ) → length b ≡ 512 → n ≤ 999_999 → length (with_house b n) ≡ 512
+house-size b n len small =
+    let text = house_text n in
+    let ten = length-house_text n small in
+    length-over b text 11 21 (omega arith) (omega arith) ∙ len
+
+pub house-there : (b : List ℕ) (n : ℕ) → length b ≡ 512 → n ≤ 999_999 → record_house (with_house b n) ≡ Some n
+house-there b n len small =
+    let text = house_text n in
+    let ten = length-house_text n small in
+    let field : field_of (with_house b n) HouseNumber ≡ text = ap (λ k. take k (drop 11 (with_house b n))) (sym ten) ∙ part_inside b text 11 21 (omega arith) (omega arith) in
+    ap house_of field ∙ house_of-text n small
+
+pub house-key : (b : List ℕ) (n : ℕ) → length b ≡ 512 → n ≤ 999_999 → record_key (with_house b n) ≡ record_key b
+house-key b n len small =
+    let text = house_text n in
+    let ten = length-house_text n small in
+    let size : 11 + length text ≡ 21 = omega arith in
+    let inside : 21 ≤ length b = omega arith in
+    let after = λ (k m : ℕ) (h : 21 ≤ k). part_after b text 11 21 k m size inside h in
+    ap (λ f. street_key f (field_of (with_house b n) State) (field_of (with_house b n) PrefixDirectional) (field_of (with_house b n) StreetName) (field_of (with_house b n) StreetSuffix) (field_of (with_house b n) PostDirectional)) (after 93 32 (omega arith))
+    ∙ ap (λ f. street_key (field_of b Community) f (field_of (with_house b n) PrefixDirectional) (field_of (with_house b n) StreetName) (field_of (with_house b n) StreetSuffix) (field_of (with_house b n) PostDirectional)) (after 125 2 (omega arith))
+    ∙ ap (λ f. street_key (field_of b Community) (field_of b State) f (field_of (with_house b n) StreetName) (field_of (with_house b n) StreetSuffix) (field_of (with_house b n) PostDirectional)) (after 25 2 (omega arith))
+    ∙ ap (λ f. street_key (field_of b Community) (field_of b State) (field_of b PrefixDirectional) f (field_of (with_house b n) StreetSuffix) (field_of (with_house b n) PostDirectional)) (after 27 60 (omega arith))
+    ∙ ap (λ f. street_key (field_of b Community) (field_of b State) (field_of b PrefixDirectional) (field_of b StreetName) f (field_of (with_house b n) PostDirectional)) (after 87 4 (omega arith))
+    ∙ ap (λ f. street_key (field_of b Community) (field_of b State) (field_of b PrefixDirectional) (field_of b StreetName) (field_of b StreetSuffix) f) (after 91 2 (omega arith))
+
+pub house-esn : (b : List ℕ) (n : ℕ) → length b ≡ 512 → n ≤ 999_999 → field_of (with_house b n) Esn ≡ field_of b Esn
+house-esn b n len small =
+    let ten = length-house_text n small in
+    part_after b (house_text n) 11 21 225 5 (omega arith) (omega arith) (omega arith)
+
+-- with another emergency service number
+pub esn-size : (b : List ℕ) (n : ℕ) → length b ≡ 512 → n ≤ 99_999 → length (with_esn b n) ≡ 512
+esn-size b n len small =
+    let text = zero_padded 5 n in
+    let five = length-esn_text n small in
+    length-over b text 225 230 (omega arith) (omega arith) ∙ len
+
+pub esn-there : (b : List ℕ) (n : ℕ) → length b ≡ 512 → n ≤ 99_999 → field_of (with_esn b n) Esn ≡ zero_padded 5 n
+esn-there b n len small =
+    let text = zero_padded 5 n in
+    let five = length-esn_text n small in
+    ap (λ k. take k (drop 225 (with_esn b n))) (sym five) ∙ part_inside b text 225 230 (omega arith) (omega arith)
+
+pub esn-house : (b : List ℕ) (n : ℕ) → length b ≡ 512 → n ≤ 99_999 → record_house (with_esn b n) ≡ record_house b
+esn-house b n len small =
+    let five = length-esn_text n small in
+    ap house_of (part_before b (zero_padded 5 n) 225 230 11 10 (omega arith) (omega arith) (omega arith))
+
+pub esn-key : (b : List ℕ) (n : ℕ) → length b ≡ 512 → n ≤ 99_999 → record_key (with_esn b n) ≡ record_key b
+esn-key b n len small =
+    let text = zero_padded 5 n in
+    let five = length-esn_text n small in
+    let size : 225 + length text ≡ 230 = omega arith in
+    let inside : 230 ≤ length b = omega arith in
+    let before = λ (k m : ℕ) (h : k + m ≤ 225). part_before b text 225 230 k m size inside h in
+    ap (λ f. street_key f (field_of (with_esn b n) State) (field_of (with_esn b n) PrefixDirectional) (field_of (with_esn b n) StreetName) (field_of (with_esn b n) StreetSuffix) (field_of (with_esn b n) PostDirectional)) (before 93 32 (omega arith))
+    ∙ ap (λ f. street_key (field_of b Community) f (field_of (with_esn b n) PrefixDirectional) (field_of (with_esn b n) StreetName) (field_of (with_esn b n) StreetSuffix) (field_of (with_esn b n) PostDirectional)) (before 125 2 (omega arith))
+    ∙ ap (λ f. street_key (field_of b Community) (field_of b State) f (field_of (with_esn b n) StreetName) (field_of (with_esn b n) StreetSuffix) (field_of (with_esn b n) PostDirectional)) (before 25 2 (omega arith))
+    ∙ ap (λ f. street_key (field_of b Community) (field_of b State) (field_of b PrefixDirectional) f (field_of (with_esn b n) StreetSuffix) (field_of (with_esn b n) PostDirectional)) (before 27 60 (omega arith))
+    ∙ ap (λ f. street_key (field_of b Community) (field_of b State) (field_of b PrefixDirectional) (field_of b StreetName) f (field_of (with_esn b n) PostDirectional)) (before 87 4 (omega arith))
+    ∙ ap (λ f. street_key (field_of b Community) (field_of b State) (field_of b PrefixDirectional) (field_of b StreetName) (field_of b StreetSuffix) f) (before 91 2 (omega arith))
+
+-- the address of a record that a range holds
+pub held-address : (r : Range) (b : List ℕ) → holds_record r b ≡ true → (n : ℕ) × (record_house b ≡ Some n) × (holds r (record_key b) n ≡ true)
+held-address r b h =
+    elim (record_house b) as (λ o. record_house b ≡ o → option_map_or (λ n. holds r (record_key b) n) o false ≡ true → (n : ℕ) × (record_house b ≡ Some n) × (holds r (record_key b) n ≡ true))
+    [ None ↦ (λ e k. absurd cc) | Some n ↦ (λ e k. (n, e, k)) ] refl h
+
+pub held-by : (r : Range) (b : List ℕ) (n : ℕ) → record_house b ≡ Some n → holds r (record_key b) n ≡ true → holds_record r b ≡ true
+held-by r b n e h = ap (λ o. option_map_or (λ n. holds r (record_key b) n) o false) e ∙ h
+
+-- a record of the same address is held by the same ranges
+pub same-address : (r : Range) (b c : List ℕ) → record_key c ≡ record_key b → record_house c ≡ record_house b → holds_record r c ≡ holds_record r b
+same-address r b c key house =
+    ap (λ o. option_map_or (λ n. holds r (record_key c) n) o false) house ∙ ap (λ k. option_map_or (λ n. holds r k n) (record_house b) false) key
+
+-- the house number of a row that a range holds stays one where the ends do
+pub held-stays : (r : Range) (b : List ℕ) (n : ℕ) (by : ℤ) → holds_record r b ≡ true → record_house b ≡ Some n → stays_house r.low by ≡ true → stays_house r.high by ≡ true → stays_house n by ≡ true
+held-stays r b n by h house low high =
+    let a = held-address r b h in
+    let one : a.0 ≡ n = let e : Some a.0 ≡ Some n = sym a.1 ∙ house in cc in
+    let w = held-parts r a.0 (both (same_key r.key (record_key b)) (is_held r a.0) a.2).1 in
+    subst (λ (m : ℕ). stays_house m by ≡ true) one (stays-between r.low a.0 r.high by w.0 w.1 low high)
+
+pub when-there : {X : Type 0} (b : Bool) (x : X) → b ≡ true → IsSome (when b x)
+when-there true x h = refl
+when-there false x h = cc

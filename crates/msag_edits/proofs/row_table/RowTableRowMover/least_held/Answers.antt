@@ -1,0 +1,15 @@
+use Rattle.std.proofs.Common.{ℕ, List, ap, ◌∙◌}
+use Rattle.std.specs.Option.{option_map}
+use Rattle.msag_edits.specs.Rows.{StoredRow, least_held}
+use Rattle.msag_edits.proofs.RowTables.{first-held}
+use Rattle.msag_edits.proofs.row_table.RowTableRowMover.least_held.Goals as goal
+
+pub returns-in-Some : goal.returns-in-Some
+returns-in-Some c =
+    ap (option_map (λ (e : List ℕ × StoredRow). e.0)) c.in-Some.ensures.value
+    ∙ first-held c.self.inside.by_tn.entries c.args.r.now c.first_in.ensures.ordered ∙ ap (λ m. least_held m c.args.r.now) c.self.view_is
+
+pub returns-in-None : goal.returns-in-None
+returns-in-None c =
+    ap (option_map (λ (e : List ℕ × StoredRow). e.0)) c.in-None.ensures.value
+    ∙ first-held c.self.inside.by_tn.entries c.args.r.now c.first_in.ensures.ordered ∙ ap (λ m. least_held m c.args.r.now) c.self.view_is

@@ -1,0 +1,11 @@
+use Rattle.std.proofs.Common.{rules, subst}
+use Rattle.std.proofs.lemmas.Map.Made.{map_same_pairs}
+use Rattle.msag_edits.specs.Rows.{RowMap, AreChanged, esn_row}
+use Rattle.msag_edits.proofs.RowTables.{changed-entries, map_of}
+use Rattle.msag_edits.proofs.row_table.RowTableRowMover.set_esn.Goals as goal
+
+pub returns-clause-each : goal.returns-clause-each
+returns-clause-each c =
+    let change = esn_row c.args.r.now c.args.esn in
+    let e = map_same_pairs _ change _ (λ k v b w f' t. search rules) _ _ c.retain.ensures.filtered in
+    subst (λ (m : RowMap). AreChanged change m (map_of c.retain.new.self.entries)) c.self.view_is (changed-entries change c.self.inside.by_tn.entries c.retain.new.self.entries e)

@@ -1,0 +1,6 @@
+pub mod Rows
+pub mod RowCodes
+pub mod HouseArithmetic
+pub mod EditRules
+pub mod Edits
+pub mod GuideSoundness

@@ -1,0 +1,16 @@
+//! The range that an edit names.
+ghost use Rattle.std.specs.Prelude.{◌≡◌};
+ghost use Rattle.ali_base.specs.StreetGuide.{IsSoundGuide, range_of};
+
+use ali_base::Range;
+use msag_ranges::Guide;
+
+/// The range of this id, and with it what every guide keeps.
+pub(crate) fn live_range(guide: &Guide, id: u32) -> Option<Range>
+    ensures value { result ≡ range_of guide.now.ranges id }
+    ensures sound { IsSoundGuide guide.now.ranges guide.now.next guide.now.limit }
+{
+    // Any call of the guide that says so would do.
+    let _ = guide.next_id();
+    guide.get(id).copied()
+}

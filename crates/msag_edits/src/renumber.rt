@@ -1,0 +1,43 @@
+//! RENUMBER: adds a difference to the ends of a range and to the house numbers in it.
+ghost use Rattle.std.specs.Prelude.{◌≡◌, ◌≢◌};
+ghost use Rattle.msag_edits.specs.EditRules.{renumber_verdict, renumber_act};
+ghost use Rattle.msag_edits.specs.Rows.{AreChanged};
+
+use crate::edit_verdict::EditVerdict;
+use crate::houses::{shifted, swaps_parity};
+use crate::live_range::live_range;
+use crate::row_mover::RowMover;
+use msag_ranges::Guide;
+
+/// Adds `by` to both ends of the range of this id, and to the house number of each row that it holds.
+pub(crate) fn renumber<R: RowMover>(
+    guide: &mut Guide,
+    rows: &mut R,
+    id: u32,
+    by: i32,
+) -> EditVerdict
+    ensures verdict { result ≡ renumber_verdict guide.old (R.rows rows.old) id by }
+    ensures ranges { result.code ≡ 0 → guide.new ≡ record guide.old { ranges = (renumber_act guide.old id by).ranges; spare = guide.new.spare } }
+    ensures rows { result.code ≡ 0 → AreChanged (renumber_act guide.old id by).row (R.rows rows.old) (R.rows rows.new) }
+    ensures refused { result.code ≢ 0 → guide.new ≡ guide.old }
+    ensures rows_refused { result.code ≢ 0 → R.rows rows.new ≡ R.rows rows.old }
+{
+    let Some(range) = live_range(guide, id) else {
+        return EditVerdict::refused(501);
+    };
+    if swaps_parity(range.parity, by) {
+        return EditVerdict::refused(507);
+    }
+    let Some(shifted) = shifted(&range, by) else {
+        return EditVerdict::refused(506);
+    };
+    if let Some(other) = guide.overlap(&shifted, Some(id)) {
+        return EditVerdict {
+            code: 502,
+            detail: u64::from(other),
+        };
+    }
+    guide.set(id, shifted.low, shifted.high, shifted.esn);
+    let count = rows.shift(&range, by);
+    EditVerdict::done(u64::from(count))
+}
