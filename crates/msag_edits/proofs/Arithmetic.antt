@@ -31,11 +31,11 @@ before Even n h k = grind (arith, nat_tests)
 before Both n h k = absurd cc
 
 -- what the test of a choice gives
-pub choice : (b : Bool) (x y : ℕ) (P : ℕ → Type 0) → (b ≡ true → P x) → (b ≡ false → P y) → P (cond b x y)
+pub choice : {X : Type 0} (b : Bool) (x y : X) (P : X → Type 0) → (b ≡ true → P x) → (b ≡ false → P y) → P (cond b x y)
 choice true x y P h k = h refl
 choice false x y P h k = k refl
 
-not_both : (b : Bool) → b ≡ true → b ≡ false → ⊥
+pub not_both : (b : Bool) → b ≡ true → b ≡ false → ⊥
 not_both b h k = cc
 
 differ : (p : Parity) (m n : ℕ) → has_parity p m ≡ true → has_parity p n ≡ false → m ≢ n

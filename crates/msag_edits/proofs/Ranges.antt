@@ -1,5 +1,5 @@
 -- Ranges among the others of a guide.
-use Rattle.std.proofs.Common.{◌≡◌, ℕ, ◌<◌, ◌≤◌, ◌==◌, Bool, true, false, cond, ◌&&◌, not, nat_le, ℤ, List, [], ◌∷◌, get_or, map, refl, sym, ap, subst, ◌∙◌, arith, Option, Some, None, suc, ◌⊎◌, inl, inr, All, AllPairs, filter, find, IfSome, Contains}
+use Rattle.std.proofs.Common.{◌≡◌, ◌≢◌, ℕ, ◌<◌, ◌≤◌, ◌==◌, Bool, true, false, cond, ◌&&◌, not, nat_le, ℤ, List, [], ◌∷◌, get_or, map, refl, sym, ap, subst, ◌∙◌, arith, Option, Some, None, suc, ◌⊎◌, inl, inr, All, AllPairs, filter, find, IfSome, Contains}
 use Rattle.std.proofs.lemmas.List.{get_or_default}
 use Rattle.std.proofs.lemmas.List.Elements.{All-tail, All-head, All-contains, All-map, All-weaker, Contains-get_or}
 use Rattle.ali_base.specs.StreetKey.{same_key}
@@ -10,7 +10,7 @@ use Rattle.ali_base.specs.declared.street_key.StreetKey.{StreetKey}
 use Rattle.ali_base.specs.Steps.{when}
 use Rattle.msag_edits.specs.HouseArithmetic.{added, stays_house, is_odd, is_one_parity, last_to, first_above}
 use Rattle.msag_edits.specs.EditRules.{upper_part, has_empty_part}
-use Rattle.msag_edits.proofs.Arithmetic.{last_to-is, first_above-is, added-order, added-parity}
+use Rattle.msag_edits.proofs.Arithmetic.{choice, last_to-is, first_above-is, added-order, added-parity}
 use Rattle.msag_ranges.proofs.Overlapping.{both, and-true, overlaps-found}
 
 -- the first element that passes is one of the list, and passes
@@ -64,17 +64,21 @@ one_holder xs s t apart a b o =
       ]
     ]
 
+-- ids that rise differ
+pub different_ids : (xs : List Range) → AllPairs (λ a b. a.id < b.id) xs → AllPairs (λ a b. a.id ≢ b.id) xs
+different_ids xs rising = λ i j d lt inside e. let less = rising i j d lt inside in omega arith
+
 -- two ranges of a guide with the same id are one
-pub one_of_id : (xs : List Range) (s t : Range) → AllPairs (λ a b. a.id < b.id) xs → Contains xs s → Contains xs t → s.id ≡ t.id → s ≡ t
-one_of_id xs s t rising a b e =
+pub one_of_id : (xs : List Range) (s t : Range) → AllPairs (λ a b. a.id ≢ b.id) xs → Contains xs s → Contains xs t → s.id ≡ t.id → s ≡ t
+one_of_id xs s t different a b e =
     let at-s : get_or xs a.0 s ≡ s = a.2 in
     let at-t : get_or xs b.0 s ≡ t = get_or_default xs b.0 s t b.1 ∙ b.2 in
     let id-s : (get_or xs a.0 s).id ≡ s.id = ap (λ (r : Range). r.id) at-s in
     let id-t : (get_or xs b.0 s).id ≡ t.id = ap (λ (r : Range). r.id) at-t in
     elim (order a.0 b.0) as (λ _. s ≡ t) [
-      | inl lt ↦ absurd (let less = rising a.0 b.0 s lt b.1 in omega arith)
+      | inl lt ↦ absurd (different a.0 b.0 s lt b.1 (id-s ∙ e ∙ sym id-t))
       | inr rest ↦ elim rest as (λ _. s ≡ t) [
-        | inl gt ↦ absurd (let less = rising b.0 a.0 s gt a.1 in omega arith)
+        | inl gt ↦ absurd (different b.0 a.0 s gt a.1 (id-t ∙ sym e ∙ sym id-s))
         | inr same ↦ sym at-s ∙ ap (λ (i : ℕ). get_or xs i s) same ∙ at-t
       ]
     ]
@@ -193,11 +197,6 @@ parts_apart r id at esn n h k ends low high =
     let v = first_above-is r.parity r.high at ends.high_parity high in
     omega (arith, h.0, k.1, w.1, v.0)
 
--- what is not the range of the id stays
-pub by_id : (b : Bool) (x y : Range) (P : Range → Type 0) → (b ≡ true → P x) → (b ≡ false → P y) → P (cond b x y)
-by_id true x y P h k = h refl
-by_id false x y P h k = k refl
-
 pub may_stand-upper : (xs : List Range) (next limit id new at esn : ℕ) (r : Range) → IsSoundGuide xs next limit → range_of xs id ≡ Some r → r.low ≤ at → at < r.high
     → MayStand (with_moved xs id r.low (last_to r.parity at) r.esn) (upper_part r new at esn) None
 may_stand-upper xs next limit id new at esn r g found low high =
@@ -213,9 +212,9 @@ may_stand-upper xs next limit id new at esn r g found low high =
           (All-map (λ t. is_other None t.id ≡ true → Overlap s t → ⊥) change xs (λ k d inside.
           let t : Range = get_or xs k d in
           let there : Contains xs t = Contains-get_or xs k d inside in
-          by_id (t.id == id) (moved t r.low (last_to r.parity at) r.esn) t (λ u. is_other None u.id ≡ true → Overlap s u → ⊥)
+          choice (t.id == id) (moved t r.low (last_to r.parity at) r.esn) t (λ u. is_other None u.id ≡ true → Overlap s u → ⊥)
           (λ e _ o.
-          let is : t ≡ r = one_of_id xs t r g.rising there w.0 (same_id t id e ∙ sym w.1) in
+          let is : t ≡ r = one_of_id xs t r (different_ids xs g.rising) there w.0 (same_id t id e ∙ sym w.1) in
           let a : Holds s o.1 = held-parts s o.1 (both (same_key s.key o.0) (is_held s o.1) o.2).1 in
           let lower : Range = moved r r.low (last_to r.parity at) r.esn in
           let b : holds lower o.0 o.1 ≡ true = subst (λ (x : Range). holds (moved x r.low (last_to r.parity at) r.esn) o.0 o.1 ≡ true) is o.3 in

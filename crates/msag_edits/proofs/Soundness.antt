@@ -1,10 +1,9 @@
 -- Edits keep guide and rows sound.
-use Rattle.std.proofs.Common.{◌≡◌, ◌≢◌, ℕ, ◌+◌, ◌<◌, ◌≤◌, ◌==◌, Bool, true, false, cond, ◌&&◌, not, nat_le, ℤ, List, [], ◌∷◌, ◌++◌, length, get_or, map, refl, sym, ap, subst, ◌∙◌, arith, Option, Some, None, zero, suc, filter, find, IfSome, Contains, AllPairs, inl, inr, if◌then◌else◌, ◌⊎◌, Result, Ok, Err, IfOk, OnErr}
+use Rattle.std.proofs.Common.{◌≡◌, ◌≢◌, ℕ, ◌+◌, ◌<◌, ◌≤◌, ◌==◌, Bool, true, false, cond, ◌&&◌, not, nat_le, ℤ, List, [], ◌∷◌, ◌++◌, length, map, refl, sym, ap, subst, ◌∙◌, arith, Option, Some, None, zero, suc, filter, find, IfSome, Contains, inl, inr, if◌then◌else◌, ◌⊎◌, Result, Ok, Err, IfOk, OnErr}
 use Rattle.ali_base.specs.declared.no_memory.NoMemory.{NoMemory}
 use Rattle.std.specs.Option.{option_map, option_map_or}
 use Rattle.std.specs.FinMap.{get, entries, get-entries}
 use Rattle.std.specs.FinMap.Entries as ordered
-use Rattle.std.proofs.lemmas.List.{get_or_default}
 use Rattle.std.proofs.lemmas.List.Elements.{Contains-append_left, Contains-push, All-contains}
 use Rattle.std.proofs.lemmas.Bool.Decides.{nat_tests}
 use Rattle.ali_base.specs.StreetGuide.{StreetGuide, IsSoundGuide, new_range, least_overlap, holds, is_held, moved, with_moved, without}
@@ -23,10 +22,10 @@ use Rattle.ali_base.specs.Numbers.{zero_padded}
 use Rattle.ali_base.specs.StreetKey.{same_key}
 use Rattle.std.specs.Ordering.{eq_by_cmp}
 use Rattle.msag_ranges.proofs.Overlapping.{both, and-true}
-use Rattle.msag_edits.proofs.Arithmetic.{none_between, added-order, added-parity, added-limit, stays-between}
+use Rattle.msag_edits.proofs.Arithmetic.{choice, not_both, none_between, added-order, added-parity, added-limit, stays-between}
 use Rattle.ali_record.specs.Address.{record_key}
 use Rattle.ali_base.specs.StreetGuide.{range_of}
-use Rattle.msag_edits.proofs.Ranges.{live, order, one_holder, held-parts, held-from}
+use Rattle.msag_edits.proofs.Ranges.{live, one_of_id, different_ids, one_holder, held-parts, held-from}
 use Rattle.msag_edits.proofs.RowFields.{held-address, held-by, same-address, house-size, house-there, house-key, house-esn, esn-size, esn-there, esn-house, esn-key}
 use Rattle.msag_edits.specs.GuideSoundness.{IsPlaced, ArePlaced, AreSound}
 
@@ -51,20 +50,6 @@ Contains-map f (y ∷ ys) x (suc k, lt, is) =
 
 -- ---- the range of an id
 
-same_of_id : (xs : List Range) (s r : Range) → AllPairs (λ a b. a.id ≢ b.id) xs → Contains xs s → Contains xs r → s.id ≡ r.id → s ≡ r
-same_of_id xs s r different a b e =
-    let at-s : get_or xs a.0 s ≡ s = a.2 in
-    let at-r : get_or xs b.0 s ≡ r = get_or_default xs b.0 s r b.1 ∙ b.2 in
-    let id-s : (get_or xs a.0 s).id ≡ s.id = ap (λ (t : Range). t.id) at-s in
-    let id-r : (get_or xs b.0 s).id ≡ r.id = ap (λ (t : Range). t.id) at-r in
-    elim (order a.0 b.0) as (λ _. s ≡ r) [
-      | inl lt ↦ absurd (different a.0 b.0 s lt b.1 (id-s ∙ e ∙ sym id-r))
-      | inr rest ↦ elim rest as (λ _. s ≡ r) [
-        | inl gt ↦ absurd (different b.0 a.0 s gt a.1 (id-r ∙ sym e ∙ sym id-s))
-        | inr same ↦ sym at-s ∙ ap (λ (i : ℕ). get_or xs i s) same ∙ at-r
-      ]
-    ]
-
 -- ranges that hold the same row are one
 one_of_row : (g : StreetGuide) (rows : RowMap) (s r : Range) (row : StoredRow) → AreSound g rows → Contains g.ranges s → Contains g.ranges r → holds_row s row ≡ true → holds_row r row ≡ true → s ≡ r
 one_of_row g rows s r row sound a b h k =
@@ -72,9 +57,6 @@ one_of_row g rows s r row sound a b h k =
     let q = held-address r row.bytes k in
     let one : p.0 ≡ q.0 = let e : Some p.0 ≡ Some q.0 = sym p.1 ∙ q.1 in cc in
     one_holder g.ranges s r sound.apart a b (record_key row.bytes, p.0, p.2, subst (λ (n : ℕ). holds r (record_key row.bytes) n ≡ true) (sym one) q.2)
-
-not_same : (b : Bool) → b ≡ true → b ≡ false → ⊥
-not_same b h k = cc
 
 at_most : (n m : ℕ) → (m < n → ⊥) → n ≤ m
 at_most n m h = grind (arith, nat_tests)
@@ -90,8 +72,8 @@ placed-other : (g : StreetGuide) (rows : RowMap) (id low high esn : ℕ) (r : Ra
 placed-other g rows id low high esn r row sound found free p =
     let w = live g.ranges id r found in
     let other : p.range.id ≡ id → ⊥ = λ e.
-    let is : p.range ≡ r = same_of_id g.ranges p.range r sound.different p.live w.0 (e ∙ sym w.1) in
-    not_same (holds_row r row) (subst (λ t. holds_row t row ≡ true) is p.held) free in
+    let is : p.range ≡ r = one_of_id g.ranges p.range r sound.different p.live w.0 (e ∙ sym w.1) in
+    not_both (holds_row r row) (subst (λ t. holds_row t row ≡ true) is p.held) free in
     let test : (p.range.id == id) ≡ false = different-test p.range.id id other in
     let stays : cond (p.range.id == id) (moved p.range low high esn) p.range ≡ p.range = ap (λ b. cond b (moved p.range low high esn) p.range) test in
     record {
@@ -140,8 +122,8 @@ placed-retire g rows id r tn row sound found none has p =
     let w = live g.ranges id r found in
     let free : holds_row r row ≡ false = unused-row (entries rows) r tn row none (sym (get-entries rows tn) ∙ has) in
     let other : p.range.id ≡ id → ⊥ = λ e.
-    let is : p.range ≡ r = same_of_id g.ranges p.range r sound.different p.live w.0 (e ∙ sym w.1) in
-    not_same (holds_row r row) (subst (λ t. holds_row t row ≡ true) is p.held) free in
+    let is : p.range ≡ r = one_of_id g.ranges p.range r sound.different p.live w.0 (e ∙ sym w.1) in
+    not_both (holds_row r row) (subst (λ t. holds_row t row ≡ true) is p.held) free in
     record {
       size = p.size;
       range = p.range;
@@ -162,16 +144,11 @@ placed-esn ys s row size small there held = record {
   esn = esn-there row.bytes s.esn size small;
 }
 
--- cases on whether a range holds a row
-by_hold : (r : Range) (row : StoredRow) (x y : StoredRow) (P : StoredRow → Type 0) → (holds_row r row ≡ true → P x) → (holds_row r row ≡ false → P y) → P (cond (holds_row r row) x y)
-by_hold r row x y P h k =
-    elim (holds_row r row) as (λ b. (b ≡ true → P x) → (b ≡ false → P y) → P (cond b x y)) [ true ↦ (λ a b. a refl) | false ↦ (λ a b. b refl) ] h k
-
 placed-set_esn : (g : StreetGuide) (rows : RowMap) (id esn : ℕ) (r : Range) (row : StoredRow) → AreSound g rows → range_of g.ranges id ≡ Some r → esn ≤ 99_999
     → IsPlaced g.ranges row → IsPlaced (with_moved g.ranges id r.low r.high esn) (esn_row r esn row)
 placed-set_esn g rows id esn r row sound found small p =
     let ys = with_moved g.ranges id r.low r.high esn in
-    by_hold r row (record row { bytes = with_esn row.bytes esn }) row (IsPlaced ys)
+    choice (holds_row r row) (record row { bytes = with_esn row.bytes esn }) row (IsPlaced ys)
     (λ h. placed-esn ys (moved r r.low r.high esn) row p.size small (moved-live g.ranges id r.low r.high esn r found) h)
     (λ h. placed-other g rows id r.low r.high esn r row sound found h p)
 
@@ -188,7 +165,7 @@ not_above r new at esn row k h =
     let s : Range = upper_part r new at esn in
     let below : n ≤ at = at_most n at (λ gt.
     let held : is_held s n ≡ true = held-from s n (gap.1 gt, w.1, w.2) in
-    not_same (holds_row s row) (held-by s row.bytes n a.1 (and-true _ _ q.0 held)) h) in
+    not_both (holds_row s row) (held-by s row.bytes n a.1 (and-true _ _ q.0 held)) h) in
     held-by (moved r r.low (last_to r.parity at) r.esn) row.bytes n a.1 (and-true _ _ q.0 (held-from (moved r r.low (last_to r.parity at) r.esn) n (w.0, gap.0 below, w.2)))
 
 placed-split : (g : StreetGuide) (rows : RowMap) (id new at esn : ℕ) (r : Range) (row : StoredRow) → AreSound g rows → range_of g.ranges id ≡ Some r → esn ≤ 99_999
@@ -198,7 +175,7 @@ placed-split g rows id new at esn r row sound found small p =
     let xs = with_moved g.ranges id r.low (last_to r.parity at) r.esn in
     let s : Range = upper_part r new at esn in
     let lower : Range = moved r r.low (last_to r.parity at) r.esn in
-    by_hold s row (record row { bytes = with_esn row.bytes esn }) row (IsPlaced (xs ++ s ∷ []))
+    choice (holds_row s row) (record row { bytes = with_esn row.bytes esn }) row (IsPlaced (xs ++ s ∷ []))
     (λ h. placed-esn (xs ++ s ∷ []) s row p.size small (Contains-push xs s) h)
     (λ h. placed-add xs s row (stay (holds_row r row) refl h))
   where
@@ -223,7 +200,7 @@ placed-renumber : (g : StreetGuide) (rows : RowMap) (id : ℕ) (by : ℤ) (r : R
 placed-renumber g rows id by r row sound found even low high p =
     let ys = with_moved g.ranges id (added r.low by) (added r.high by) r.esn in
     let new = option_map_or (λ n. added n by) (record_house row.bytes) 0 in
-    by_hold r row (record row { bytes = with_house row.bytes new }) row (IsPlaced ys)
+    choice (holds_row r row) (record row { bytes = with_house row.bytes new }) row (IsPlaced ys)
     (λ k.
     let w = live g.ranges id r found in
     let is : p.range ≡ r = one_of_row g rows p.range r row sound p.live w.0 p.held k in
@@ -353,7 +330,7 @@ pub sound-from : (g : StreetGuide) (rows : RowMap) → IsSoundGuide g.ranges g.n
 sound-from g rows s placed = record {
   ends = s.ends;
   numbers = s.numbers;
-  different = λ i j d lt inside e. let less = s.rising i j d lt inside in omega arith;
+  different = different_ids g.ranges s.rising;
   known = λ k d inside. (s.known k d inside).1;
   apart = s.apart;
   placed = placed;

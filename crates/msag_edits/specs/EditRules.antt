@@ -10,6 +10,7 @@ use Rattle.msag_edits.specs.declared.edit_verdict.EditVerdict.{EditVerdict}
 use Rattle.msag_edits.specs.HouseArithmetic.{added, stays_house, is_odd, is_one_parity, last_to, first_above}
 use Rattle.msag_edits.specs.Rows.{RowMap, StoredRow, count_held, least_held, esn_row, shifted_row}
 
+-- this code, and this detail
 abbrev pub verdict_of : ℕ → ℕ → EditVerdict
 verdict_of code detail = record { code = code; detail = detail }
 

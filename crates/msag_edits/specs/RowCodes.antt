@@ -13,5 +13,6 @@ coded_day = code_by (ℕ × (ℕ × ℕ)) (coded× coded_ℕ (coded× coded_ℕ 
 abbrev pub coded_row : Coded StoredRow
 coded_row = code_by (List ℕ × Option CivilDay) (coded× (coded_list coded_ℕ) (coded_option coded_day)) (λ row. (row.bytes, row.unlocked)) (λ p. record { bytes = p.0; unlocked = p.1 }) (λ _. refl)
 
+-- the rows are stored as their entries
 abbrev pub coded_rows : Coded RowMap
 coded_rows = code (coded_list coded_ℕ) coded_row
