@@ -53,7 +53,7 @@ fn is_edit(text: &[u8], edit: Option<Edit>, bytes: &[u8]) -> bool {
 }
 
 #[test]
-fn five_edits_are_read_and_written(rt: HostRuntime) -> Result<(), Fail> {
+fn add_retire_and_split_are_read_and_written(rt: HostRuntime) -> Result<(), Fail> {
     let add =
         b"ADENVER                          CO  MAIN                                                        ST    \x00\x00\x00\x64\x00\x00\x00\xc6E\x00\x00\x00\x65";
     assert_eq!(rt; add.len(), 116);
@@ -72,6 +72,11 @@ fn five_edits_are_read_and_written(rt: HostRuntime) -> Result<(), Fail> {
             b"S\xff\xff\xff\xff\x00\x0f\x42\x3f\x00\x00\x00\x00"
         )
     );
+    Ok(())
+}
+
+#[test]
+fn renumber_and_setesn_are_read_and_written(rt: HostRuntime) -> Result<(), Fail> {
     assert!(rt;
         is_edit(
             b"RENUMBER 3 -2",

@@ -4,11 +4,19 @@
 //! nothing: the contract of each states laws over the definitions.
 #![tactic(auto)]
 
-mod examples;
 mod laws;
+mod needed;
+mod worked;
 
-pub use examples::{each_part_is_needed, worked_schedules};
 pub use laws::{
     Entries, crashes_lose_nothing, faults_come_from_steps, history_only_grows, limits_hold,
     refusals_change_nothing, terms_have_no_gaps, worlds_stay_sound,
+};
+pub use needed::{
+    acknowledged_is_needed, agreement_follows, booked_is_needed, current_is_needed,
+    floored_is_needed, following_is_needed, in_time_is_needed, known_is_needed, mirrored_is_needed,
+};
+pub use worked::{
+    bookings_wait_for_both, failed_takeovers_may_last, old_shipments_are_stale,
+    old_suffixes_are_cut, takeovers_book_what_is_stored,
 };
