@@ -1,7 +1,7 @@
 ghost use Rattle.std.specs.Prelude.{◌+◌, ◌≤◌, length};
 
 use super::*;
-use ali_base::{Esn, House};
+use ali_base::{Company, Esn, House};
 use ali_record::{Record, read_record};
 use msag_ranges::{Guide, GuideFault, Parity, Range, StreetKey, has_sound_ends, overlaps};
 use std::test::Fail;
@@ -85,7 +85,10 @@ fn record(house: &[u8], name: &[u8], esn: &[u8]) -> Result<Record, u16>
     put(&mut bytes, 251, b"010224ABC01");
     put(&mut bytes, 261, b"ABC01");
     put(&mut bytes, 512, b"*");
-    read_record(&bytes)
+    match Company::read(b"ABC01") {
+        Some(company) => read_record(&bytes, company),
+        None => Err(106),
+    }
 }
 
 // The id of the range that holds the address, or the code.

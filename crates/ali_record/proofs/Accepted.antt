@@ -2,13 +2,15 @@
 use Rattle.std.proofs.Common.{◌≡◌, ℕ, ◌<◌, ◌==◌, ◌&&◌, Bool, true, false, List, [], ◌∷◌, length, refl, ap, ◌∙◌, not, cond, arith, Option, Some, None, is_none, IsSome, if◌then◌else◌}
 use Rattle.std.specs.List.{AllByRecursion, list_all}
 use Rattle.std.specs.Char.{is_ascii_digit}
+use Rattle.std.specs.Str.{bytes_eq}
 use Rattle.ali_base.specs.Columns.{is_printable}
 use Rattle.ali_base.specs.HouseNumber.{house_of}
 use Rattle.ali_base.specs.TelephoneNumber.{tn_of}
 use Rattle.ali_base.specs.CivilDay.{day_of}
+use Rattle.ali_base.specs.Company.{is_company, company_of}
 use Rattle.ali_record.specs.Layout.{field_of, byte_of}
 use Rattle.ali_record.specs.RecordReading.{IsAccepted, reading_code, conditions, first_code, is_function, is_class_of_service, is_type_of_service}
-use Rattle.ali_record.specs.declared.field.Field.TheVariants.{Function, TelephoneNumber, HouseNumber, ExtractDate, ClassOfService, TypeOfService, EndMark}
+use Rattle.ali_record.specs.declared.field.Field.TheVariants.{Function, TelephoneNumber, HouseNumber, ExtractDate, ClassOfService, TypeOfService, Company, EndMark}
 
 -- the first condition does not hold, and the others decide
 passes : (b : Bool) (n : ℕ) (cs : List (Bool × ℕ)) → first_code ((b, n) ∷ cs) ≡ 0 → 0 < n → (b ≡ false) × (first_code cs ≡ 0)
@@ -22,9 +24,12 @@ none_holds (c ∷ cs) positive h =
     (p.0, none_holds cs positive.1 p.1)
 
 -- none of the conditions holds of a record that is accepted
-pub accepted-none : (b : List ℕ) → IsAccepted b → AllByRecursion (λ c. c.0 ≡ false) (conditions b)
+pub accepted-none : (b : List ℕ) → IsAccepted b → AllByRecursion (λ c. c.0 ≡ false) (conditions (field_of b Company) b)
 unfolding reading_code conditions
-accepted-none b h = none_holds (conditions b) (omega arith, (omega arith, (omega arith, (omega arith, (omega arith, (omega arith, (omega arith, (omega arith, (omega arith, tt))))))))) h
+accepted-none b h =
+    none_holds (conditions (field_of b Company) b)
+    (omega arith, (omega arith, (omega arith, (omega arith, (omega arith, (omega arith, (omega arith, (omega arith, (omega arith, (omega arith, tt))))))))))
+    h.reading
 
 some_of : {A : Type 0} (o : Option A) → is_none o ≡ false → IsSome o
 some_of None h = cc
@@ -42,7 +47,7 @@ pub accepted-day : (b : List ℕ) → IsAccepted b → IsSome (day_of (field_of 
 unfolding conditions
 accepted-day b h =
     let none = accepted-none b h in
-    some_of (day_of (field_of b ExtractDate)) none.1.1.1.1.1.0
+    some_of (day_of (field_of b ExtractDate)) none.1.1.1.1.1.1.0
 
 -- a telephone number is its bytes
 pub tn_of-same : (bytes tn : List ℕ) → tn_of bytes ≡ Some tn → tn ≡ bytes
@@ -64,31 +69,37 @@ none_is (Some x) h = refl
 -- a record that is like an accepted one in what the conditions read is accepted
 pub accepted-like : (b c : List ℕ) → IsAccepted b
     → byte_of c EndMark ≡ byte_of b EndMark → list_all is_printable c ≡ true → byte_of c Function ≡ byte_of b Function
-    → field_of c TelephoneNumber ≡ field_of b TelephoneNumber → field_of c ExtractDate ≡ field_of b ExtractDate
+    → field_of c TelephoneNumber ≡ field_of b TelephoneNumber → field_of c Company ≡ field_of b Company → field_of c ExtractDate ≡ field_of b ExtractDate
     → IsSome (house_of (field_of c HouseNumber))
     → byte_of c ClassOfService ≡ byte_of b ClassOfService → byte_of c TypeOfService ≡ byte_of b TypeOfService → IsAccepted c
 unfolding reading_code conditions
-accepted-like b c h end printed function tn day house class type =
+accepted-like b c h end printed function tn company day house class type =
     let old = accepted-none b h in
-    none_of (conditions c) (
-      ap (λ z. not (z == 42)) end ∙ old.0,
-      (
-        ap not printed,
+    record {
+      company = ap is_company company ∙ h.company;
+      reading = none_of (conditions (field_of c Company) c) (
+        ap (λ z. not (z == 42)) end ∙ old.0,
         (
-          ap (λ z. not (is_function z)) function ∙ old.1.1.0,
+          ap not printed,
           (
-            ap (λ z. not (z == 73)) function ∙ old.1.1.1.0,
+            ap (λ z. not (is_function z)) function ∙ old.1.1.0,
             (
-              ap (λ z. is_none (tn_of z)) tn ∙ old.1.1.1.1.0,
+              ap (λ z. not (z == 73)) function ∙ old.1.1.1.0,
               (
-                ap (λ z. is_none (day_of z)) day ∙ old.1.1.1.1.1.0,
+                ap (λ z. is_none (tn_of z)) tn ∙ old.1.1.1.1.0,
                 (
-                  none_is (house_of (field_of c HouseNumber)) house,
+                  ap (λ z. not (bytes_eq z z)) company ∙ old.1.1.1.1.1.0,
                   (
-                    ap (λ z. not (is_class_of_service z)) class ∙ old.1.1.1.1.1.1.1.0,
+                    ap (λ z. is_none (day_of z)) day ∙ old.1.1.1.1.1.1.0,
                     (
-                      ap (λ z. not (is_type_of_service z)) type ∙ old.1.1.1.1.1.1.1.1.0,
-                      tt,
+                      none_is (house_of (field_of c HouseNumber)) house,
+                      (
+                        ap (λ z. not (is_class_of_service z)) class ∙ old.1.1.1.1.1.1.1.1.0,
+                        (
+                          ap (λ z. not (is_type_of_service z)) type ∙ old.1.1.1.1.1.1.1.1.1.0,
+                          tt,
+                        ),
+                      ),
                     ),
                   ),
                 ),
@@ -96,8 +107,8 @@ accepted-like b c h end printed function tn day house class type =
             ),
           ),
         ),
-      ),
-    )
+      );
+    }
 
 -- its bytes can be printed, and its house number is read
 pub accepted-printed : (b : List ℕ) → IsAccepted b → list_all is_printable b ≡ true
@@ -110,4 +121,8 @@ accepted-printed b h = not_false (list_all is_printable b) (accepted-none b h).1
 
 pub accepted-house : (b : List ℕ) → IsAccepted b → IsSome (house_of (field_of b HouseNumber))
 unfolding conditions
-accepted-house b h = some_of (house_of (field_of b HouseNumber)) (accepted-none b h).1.1.1.1.1.1.0
+accepted-house b h = some_of (house_of (field_of b HouseNumber)) (accepted-none b h).1.1.1.1.1.1.1.0
+
+-- the company of its columns is one
+pub accepted-company : (b : List ℕ) → IsAccepted b → company_of (field_of b Company) ≡ Some (field_of b Company)
+accepted-company b h = ap (λ z. if z then Some (field_of b Company) else None) h.company

@@ -1,12 +1,14 @@
--- Reading a record: a list of conditions over the whole record, of which the first that holds decides.
-use Rattle.std.specs.Prelude.{◌≡◌, ℕ, ◌==◌, ◌&&◌, ◌||◌, Bool, not, nat_le, List, [], ◌∷◌, is_none, if◌then◌else◌}
+-- Reading a record of a company's file: a list of conditions over the whole record, of which the first that holds decides.
+use Rattle.std.specs.Prelude.{◌≡◌, ℕ, ◌==◌, ◌&&◌, ◌||◌, Bool, true, not, nat_le, List, [], ◌∷◌, is_none, if◌then◌else◌}
 use Rattle.std.specs.List.{list_all}
+use Rattle.std.specs.Str.{bytes_eq}
 use Rattle.ali_base.specs.Columns.{is_printable}
 use Rattle.ali_base.specs.TelephoneNumber.{tn_of}
 use Rattle.ali_base.specs.HouseNumber.{house_of}
 use Rattle.ali_base.specs.CivilDay.{day_of}
+use Rattle.ali_base.specs.Company.{is_company}
 use Rattle.ali_record.specs.Layout.{field_of, byte_of}
-use Rattle.ali_record.specs.declared.field.Field.TheVariants.{Function, TelephoneNumber, HouseNumber, ExtractDate, ClassOfService, TypeOfService, EndMark}
+use Rattle.ali_record.specs.declared.field.Field.TheVariants.{Function, TelephoneNumber, HouseNumber, ExtractDate, ClassOfService, TypeOfService, Company, EndMark}
 
 -- a function: I, C, D, U or M
 abbrev pub is_function : ℕ → Bool
@@ -20,9 +22,9 @@ is_type_of_service byte = nat_le 48 byte && nat_le byte 57
 abbrev pub is_class_of_service : ℕ → Bool
 is_class_of_service byte = (nat_le 48 byte && nat_le byte 57) || (nat_le 65 byte && nat_le byte 90)
 
--- the conditions, each with its code
-unfoldable pub conditions : List ℕ → List (Bool × ℕ)
-conditions b =
+-- the conditions, each with its code; company is the five bytes of the file's header
+unfoldable pub conditions : List ℕ → List ℕ → List (Bool × ℕ)
+conditions company b =
     -- the record does not end with `*`
     (not (byte_of b EndMark == 42), 108)
     -- a byte is not one from the space to the tilde
@@ -33,6 +35,8 @@ conditions b =
     ∷ (not (byte_of b Function == 73), 199)
     -- the telephone number is not ten digits
     ∷ (is_none (tn_of (field_of b TelephoneNumber)), 102)
+    -- the company is not the file's
+    ∷ (not (bytes_eq (field_of b Company) company), 106)
     -- the extract date is no civil day of 2000 to 2099
     ∷ (is_none (day_of (field_of b ExtractDate)), 107)
     -- the house number cannot be read
@@ -46,9 +50,11 @@ abbrev pub first_code : List (Bool × ℕ) → ℕ
 first_code [] = 0
 first_code (c ∷ cs) = if c.0 then c.1 else first_code cs
 
--- the code of a record that is read alone; 0 where it is accepted
-unfoldable pub reading_code : List ℕ → ℕ
-reading_code b = first_code (conditions b)
+-- the code of a record in a file of this company that is read alone; 0 where it is accepted
+unfoldable pub reading_code : List ℕ → List ℕ → ℕ
+reading_code company b = first_code (conditions company b)
 
-abbrev pub IsAccepted : List ℕ → Type 0
-IsAccepted b = reading_code b ≡ 0
+-- a record that a file of its own company may hold
+pub record IsAccepted (b : List ℕ) : Type 0 where
+  pub company : is_company (field_of b Company) ≡ true
+  pub reading : reading_code (field_of b Company) b ≡ 0

@@ -4,10 +4,10 @@ ghost use Rattle.ali_base.specs.Columns.{trimmed, is_blank};
 ghost use Rattle.ali_base.specs.HouseNumber.{house_of};
 ghost use Rattle.ali_base.specs.CivilDay.{day_of};
 ghost use Rattle.ali_record.specs.Layout.{field_of, byte_of, field_columns};
-ghost use Rattle.ali_record.specs.RecordReading.{reading_code, is_function, is_class_of_service, is_type_of_service};
+ghost use Rattle.ali_record.specs.RecordReading.{IsAccepted, reading_code, is_function, is_class_of_service, is_type_of_service};
 
 use crate::field::Field;
-use ali_base::{Day, House, Tn, columns, is_blank, is_printable, trimmed};
+use ali_base::{Company, Day, House, Tn, columns, is_blank, is_printable, trimmed};
 use std::marker::Model;
 
 /// A record that reading accepts: 512 bytes, kept as sent.
@@ -27,22 +27,24 @@ impl Model for Record {
     ghost invariant = { λ r. IsAccepted r.bytes };
 }
 
-/// The record, or the code of the first condition that it breaks, tested in this order:
+/// The record of a company's file, or the code of the first condition that it breaks, tested in this
+/// order:
 ///
 /// - 108: column 512 is not `*`
 /// - 109: a byte is not one from 0x20 to 0x7E
 /// - 101: the function is not I, C, D, U or M
 /// - 199: the function is not I, the only one that is served yet
 /// - 102: the telephone number is not ten digits
+/// - 106: the company is not that of the file
 /// - 107: the extract date is no civil day, written MMDDYY, of 2000 to 2099
 /// - 103: the house number cannot be read, or is above 999,999
 /// - 104: the class of service is not 0 to 9 or A to Z
 /// - 105: the type of service is not 0 to 9
 #[tactic(auto, unfolding(crate::specs::RecordReading::reading_code, crate::specs::RecordReading::conditions))]
-pub fn read_record(bytes: &[u8; 512]) -> Result<Record, u16>
+pub fn read_record(bytes: &[u8; 512], company: Company) -> Result<Record, u16>
     ensures { MatchResult result
-        (λ record_read. (record_read ≡ bytes.now) × (reading_code bytes.now ≡ 0))
-        (λ code. (code ≡ reading_code bytes.now) × (code ≢ 0)) }
+        (λ record_read. (record_read ≡ bytes.now) × (reading_code company bytes.now ≡ 0))
+        (λ code. (code ≡ reading_code company bytes.now) × (code ≢ 0)) }
 {
     if byte_of(bytes, Field::EndMark) != b'*' {
         return Err(108);
@@ -58,6 +60,9 @@ pub fn read_record(bytes: &[u8; 512]) -> Result<Record, u16>
     }
     if Tn::read(field_of(bytes, Field::TelephoneNumber)).is_none() {
         return Err(102);
+    }
+    if field_of(bytes, Field::Company) != company.text().as_slice() {
+        return Err(106);
     }
     if Day::read(field_of(bytes, Field::ExtractDate)).is_none() {
         return Err(107);
@@ -78,7 +83,7 @@ impl Record {
     /// The 512 bytes, as sent.
     pub fn bytes(&self) -> &[u8; 512]
         ensures same { result.now ≡ self.now }
-        ensures accepted { reading_code result.now ≡ 0 }
+        ensures accepted { IsAccepted result.now }
     {
         &self.bytes
     }
@@ -125,6 +130,13 @@ impl Record {
         ensures { result ≡ is_blank (field_of self.now Field.HouseNumber) }
     {
         is_blank(field_of(&self.bytes, Field::HouseNumber))
+    }
+
+    /// The company: the five bytes of its columns.
+    pub fn company(&self) -> Company
+        ensures { result ≡ field_of self.now Field.Company }
+    {
+        Company::read(field_of(&self.bytes, Field::Company)).unwrap()
     }
 
     /// The extract date.
