@@ -1,20 +1,23 @@
 -- The laws of the grammar.
-use Rattle.std.proofs.Common.{◌≡◌, ◌≢◌, ℕ, suc, ◌+◌, ◌-◌, ◌*◌, ◌/◌, ◌<◌, ◌≤◌, inl, inr, Bool, true, false, cond, ◌&&◌, ◌==◌, nat_le, List, [], ◌∷◌, ◌++◌, length, take, drop, get_or, refl, ap, sym, ◌∙◌, subst, arith, Option, Some, None, is_some, option_map, length-append, append-nil}
+use Rattle.std.proofs.Common.{◌≡◌, ◌≢◌, ℕ, suc, ◌+◌, ◌-◌, ◌*◌, ◌/◌, ◌<◌, ◌≤◌, inl, inr, Bool, true, false, cond, ◌&&◌, ◌==◌, nat_le, List, [], ◌∷◌, ◌++◌, length, take, drop, get_or, refl, ap, sym, ◌∙◌, subst, arith, Option, Some, None, is_some, option_map, unwrap_or, length-append, append-nil}
 use Rattle.std.proofs.lemmas.Bool.{eqb-true}
 use Rattle.std.proofs.lemmas.Bool.Decides.{nat_tests}
 use Rattle.std.proofs.lemmas.List.{drop-append-le, take-append-le, length-drop, get_or-drop, get_or-take}
 use Rattle.std.proofs.lemmas.List.Elements.{recursion_from_All}
 use Rattle.std.proofs.Math.Seq.{take-append_seam}
 use Rattle.std.specs.List.{All, AllByRecursion}
+use Rattle.ali_base.specs.Steps.{when}
 use Rattle.ali_base.specs.Columns.{columns}
-use Rattle.ali_base.specs.Company.{company_of}
+use Rattle.ali_base.specs.Company.{company_of, is_company}
 use Rattle.ali_base.specs.Numbers.{cycle_of}
 use Rattle.ali_base.specs.CivilDay.{CivilDay, day_of}
 use Rattle.batch_frame.specs.declared.fault.FrameFault.TheVariants as faults
 use Rattle.batch_frame.specs.declared.separator.Separator.{Separator}
 use Rattle.batch_frame.specs.declared.separator.Separator.TheVariants.{Bare, Lf, CrLf}
 use Rattle.batch_frame.specs.CarrierFile.{CarrierFile, IsFile, Spells, IsRecord, LooksSeparated, separator_bytes, separator_of, separated, piece_size, record_count, record_at, records_in, all_records, file_in}
-use Rattle.batch_frame.specs.FrameFault.{IsRead, AreSound, is_whole, length_fault, too_many_fault, found, header_of, trailer_of, header_fault, trailer_fault, company_fault, count_fault, frame_fault}
+use Rattle.batch_frame.specs.FrameFault.{IsRead, AreSound, is_whole, length_fault, too_many_fault, found, header_of, trailer_of, header_fault, trailer_fault, company_fault, count_fault, frame_fault, file_of, first_day}
+use Rattle.batch_frame.specs.Told.{frame_of}
+use Rattle.batch_frame.specs.declared.file.Frame.{Frame}
 use Rattle.batch_frame.proofs.Cutting.{Followed, drop_none, records_in-get, separated-length, followed_separated}
 use Rattle.batch_frame.proofs.Faults.{if_none, no_fault, none_at_all, no_separator_fault}
 use Rattle.batch_frame.proofs.Records.{parts, counted, below, full_count, inside, some_piece, sized, spelled_sizes, found_few, told}
@@ -214,3 +217,33 @@ one_whole_file bytes file other f g =
     ∙ ap (λ x. record other { cycle = x; day = file.day; count = file.count }) cycle
     ∙ ap (λ x. record other { day = x; count = file.count }) day
     ∙ ap (λ x. record other { count = x }) count
+
+same_company : (bytes company : List ℕ) → company_of bytes ≡ Some company → company_of bytes ≡ Some bytes
+same_company bytes company h = by_test (is_company bytes) h
+  where
+    by_test : (b : Bool) → when b bytes ≡ Some company → when b bytes ≡ Some bytes
+    by_test true h = refl
+    by_test false h = cc
+
+told_or : {A : Type 0} (o : Option A) (d x : A) → o ≡ Some x → o ≡ Some (unwrap_or o d)
+told_or None d x h = cc
+told_or (Some y) d x h = refl
+
+-- bytes without a fault are the file that they are told to be
+pub file_of_read : (bytes : List ℕ) → frame_fault bytes ≡ None → IsRead bytes (file_of bytes)
+unfolding file_of
+file_of_read bytes h =
+    let none = no_fault bytes h in
+    let header = header_of bytes in
+    let t = some_told header (mapped_header _ none.header) in
+    told bytes (separator_of bytes) (found bytes) (unwrap_or (cycle_of (columns header 15 20)) 0) (columns header 10 14) (unwrap_or (day_of (columns header 4 9)) first_day) refl refl none
+    (same_company (columns header 10 14) t.0 t.3) (told_or (cycle_of (columns header 15 20)) 0 t.1 t.4) (told_or (day_of (columns header 4 9)) first_day t.2 t.5)
+
+-- what is read of bytes is the file in them
+pub is_file_of : (bytes : List ℕ) (file : CarrierFile) → IsRead bytes file → file ≡ file_of bytes
+is_file_of bytes file f = one_whole_file bytes file (file_of bytes) f (file_of_read bytes f.sound)
+
+-- what a file told when it was read gives the file again
+pub told_again : (bytes : List ℕ) (frame : Frame) → frame ≡ frame_of (file_of bytes) → file_in bytes frame.separator frame.count frame.company frame.cycle frame.day ≡ file_of bytes
+unfolding file_of
+told_again bytes frame told = ap (λ (f : Frame). file_in bytes f.separator f.count f.company f.cycle f.day) told

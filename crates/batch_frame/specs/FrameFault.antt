@@ -1,16 +1,16 @@
 -- The faults of a carrier's file, in the order in which they are tested.
-use Rattle.std.specs.Prelude.{◌≡◌, ◌≤◌, ℕ, zero, suc, ◌+◌, ◌-◌, ◌*◌, ◌/◌, ◌%◌, ◌==◌, ◌&&◌, ◌||◌, not, Bool, nat_le, List, [], ◌∷◌, length, take, drop, Option, Some, None, is_some, option_map, codes, if◌then◌else◌}
+use Rattle.std.specs.Prelude.{◌≡◌, ◌≤◌, ℕ, zero, suc, ◌+◌, ◌-◌, ◌*◌, ◌/◌, ◌%◌, ◌==◌, ◌&&◌, ◌||◌, not, Bool, nat_le, List, [], ◌∷◌, length, take, drop, Option, Some, None, is_some, option_map, unwrap_or, codes, if◌then◌else◌}
 use Rattle.std.specs.Str.{bytes_eq}
 use Rattle.ali_base.specs.Steps.{◌>>=◌, when}
 use Rattle.ali_base.specs.Columns.{columns}
 use Rattle.ali_base.specs.Digits.{digits_number}
 use Rattle.ali_base.specs.Numbers.{cycle_of}
 use Rattle.ali_base.specs.Company.{company_of}
-use Rattle.ali_base.specs.CivilDay.{day_of}
+use Rattle.ali_base.specs.CivilDay.{CivilDay, day_of}
 use Rattle.batch_frame.specs.declared.separator.Separator.{Separator}
 use Rattle.batch_frame.specs.declared.fault.FrameFault.{FrameFault}
 use Rattle.batch_frame.specs.declared.fault.FrameFault.TheVariants as faults
-use Rattle.batch_frame.specs.CarrierFile.{CarrierFile, IsFile, separator_bytes, separator_of, piece_size, record_count, record_at}
+use Rattle.batch_frame.specs.CarrierFile.{CarrierFile, IsFile, separator_bytes, separator_of, piece_size, record_count, record_at, file_in}
 
 -- the first fault of a list
 abbrev pub first_of : List (Option FrameFault) → Option FrameFault
@@ -109,6 +109,16 @@ frame_fault bytes = first_of
     ∷ company_fault (header_of bytes) (trailer_of bytes)
     ∷ count_fault (found bytes) (trailer_of bytes)
     ∷ [])
+
+-- the day where there is none to be told
+abbrev pub first_day : CivilDay
+first_day = record { year = 2000; month = 1; day = 1 }
+
+-- the file in bytes without a fault: its parts, and what its header tells
+unfoldable pub file_of : List ℕ → CarrierFile
+file_of bytes =
+    let header = header_of bytes in
+    file_in bytes (separator_of bytes) (found bytes) (columns header 10 14) (unwrap_or (cycle_of (columns header 15 20)) 0) (unwrap_or (day_of (columns header 4 9)) first_day)
 
 -- parts without a fault of their own
 pub record AreSound (header : List ℕ) (records : List (List ℕ)) (trailer : List ℕ) : Type 0 where

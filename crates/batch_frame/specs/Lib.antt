@@ -1,2 +1,3 @@
 pub mod CarrierFile
 pub mod FrameFault
+pub mod Told

@@ -1,6 +1,7 @@
 //! Files that are read.
-ghost use Rattle.std.specs.Prelude.{◌≡◌, ℕ, ◌≤◌, ◌-◌, [], length, slice_index_or, Some, MatchResult};
-ghost use Rattle.batch_frame.specs.FrameFault.{IsSomeFile, IsRead, frame_fault};
+ghost use Rattle.std.specs.Prelude.{◌≡◌, ℕ, ◌≤◌, ◌-◌, [], length, slice_index_or, Some, MatchResult, IfOk};
+ghost use Rattle.batch_frame.specs.FrameFault.{IsSomeFile, IsRead, frame_fault, file_of};
+ghost use Rattle.batch_frame.specs.Told.{frame_of};
 
 use crate::fault::FrameFault;
 use crate::fields::{read_header, read_trailer};
@@ -8,6 +9,18 @@ use crate::framing::{check_length, check_separators, count_records, record_at, s
 use crate::separator::Separator;
 use ali_base::{Company, Cycle, Day};
 use std::marker::Model;
+
+/// What a file told when it was read. With it the file's parts are lent again, and its frame is not read
+/// a second time.
+#[derive(Clone, Copy, Debug, PartialEq, Eq)]
+pub struct Frame {
+    pub separator: Separator,
+    pub company: Company,
+    pub cycle: Cycle,
+    pub day: Day,
+    /// How many records stand between the header and the trailer.
+    pub count: u32,
+}
 
 /// A carrier's file without a fault. Its parts are lent from the bytes that were read.
 #[derive(Drop)]
@@ -32,6 +45,36 @@ impl<'a> Model for FileView<'a> {
 }
 
 impl<'a> FileView<'a> {
+    /// The parts of a file that was read before, and what it told then.
+    pub fn again(bytes: &'a [u8], frame: Frame) -> Self
+        requires framed { frame_fault bytes.now ≡ None }
+        requires told { frame ≡ frame_of (file_of bytes.now) }
+        ensures value { result ≡ file_of bytes.now }
+        ensures read { IsRead bytes.now result }
+    {
+        FileView {
+            bytes,
+            separator: frame.separator,
+            company: frame.company,
+            cycle: frame.cycle,
+            day: frame.day,
+            count: frame.count,
+        }
+    }
+
+    /// What the file told when it was read.
+    pub fn frame(&self) -> Frame
+        ensures { result ≡ frame_of self.now }
+    {
+        Frame {
+            separator: self.separator,
+            company: self.company,
+            cycle: self.cycle,
+            day: self.day,
+            count: self.count,
+        }
+    }
+
     /// The header, 512 bytes.
     pub fn header(&self) -> &[u8; 512]
         ensures value { result.now ≡ self.now.header }
@@ -97,7 +140,8 @@ impl<'a> FileView<'a> {
 
 /// Reads the bytes as a carrier's file, and lends its parts; or gives the first fault. Takes no memory.
 pub fn read_file(bytes: &[u8]) -> Result<FileView<'_>, FrameFault>
-    ensures { MatchResult result (IsRead bytes.now) (λ fault. frame_fault bytes.now ≡ Some fault) }
+    ensures read { MatchResult result (IsRead bytes.now) (λ fault. frame_fault bytes.now ≡ Some fault) }
+    ensures value { IfOk result (λ file. file ≡ file_of bytes.now) }
 {
     let separator = separator_of(bytes);
     check_length(bytes, separator)?;

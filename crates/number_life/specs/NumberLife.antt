@@ -1,8 +1,9 @@
 -- The life of a number, and the lock of its company: what each function does to a number, by how the number stands.
 use Rattle.std.specs.Prelude.{ℕ, ◌==◌, List, Option, Some, None, Result, Ok, Err, if◌then◌else◌}
+use Rattle.std.specs.Option.{option_map_or}
 use Rattle.std.specs.Str.{bytes_eq}
-use Rattle.ali_base.specs.CivilDay.{CivilDay}
-use Rattle.ali_record.specs.Layout.{field_of}
+use Rattle.ali_base.specs.CivilDay.{CivilDay, day_of}
+use Rattle.ali_record.specs.Layout.{field_of, byte_of}
 use Rattle.ali_record.specs.declared.field.Field.TheVariants as field
 use Rattle.number_life.specs.declared.act.LifeAct.{LifeAct}
 use Rattle.number_life.specs.declared.act.LifeAct.TheVariants as act
@@ -61,3 +62,8 @@ life Migrate OwnLocked day = Ok act.Store
 life Migrate OwnUnlocked day = Ok act.Store
 life Migrate OthersLocked day = Err 311
 life Migrate OthersUnlocked day = Ok act.Store
+
+-- what a record does to its number, which has this row or none; a record without an extract date does nothing
+unfoldable pub life_of : Option Row → List ℕ → Result LifeAct ℕ
+life_of row bytes =
+    option_map_or (λ day. life (function_of (byte_of bytes field.Function)) (standing_of row (field_of bytes field.Company)) day) (day_of (field_of bytes field.ExtractDate)) (Err 107)

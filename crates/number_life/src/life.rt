@@ -1,9 +1,8 @@
 //! The life of a number.
-ghost use Rattle.std.specs.Prelude.{◌≡◌, Some};
+ghost use Rattle.std.specs.Prelude.{◌≡◌};
 ghost use Rattle.std.specs.Option.{option_copied};
-ghost use Rattle.ali_base.specs.CivilDay.{CivilDay, day_of};
-ghost use Rattle.ali_record.specs.Layout.{field_of, byte_of};
-ghost use Rattle.number_life.specs.NumberLife.{life, function_of, standing_of};
+ghost use Rattle.ali_base.specs.CivilDay.{CivilDay};
+ghost use Rattle.number_life.specs.NumberLife.{life, life_of};
 
 use crate::act::LifeAct;
 use crate::function::Function;
@@ -23,9 +22,9 @@ use ali_record::{Field, Record};
 /// | M | 310 | replaced | replaced, locked | 311 | replaced, locked |
 ///
 /// A row is own where its record has the same company as this one.
+#[tactic(auto, unfolding(crate::specs::NumberLife::life_of))]
 pub fn judge(current: Option<&Row>, rec: &Record) -> Result<LifeAct, u16>
-    ensures { (day : CivilDay) → day_of (field_of rec.now Field.ExtractDate) ≡ Some day
-        → result ≡ life (function_of (byte_of rec.now Field.Function)) (standing_of (option_copied current.entry) (field_of rec.now Field.Company)) day }
+    ensures { result ≡ life_of (option_copied current.entry) rec.now }
 {
     let standing = Standing::of(current, rec.field(Field::Company));
     life(Function::of(rec.function()), standing, rec.day())

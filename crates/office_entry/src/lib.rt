@@ -1,9 +1,10 @@
-//! Edits of the street guide, as values, as text and as bytes.
+//! Entries of the booked history; edits of the street guide, as values, as text and as bytes.
 #![tactic(auto)]
 
 mod difference;
 mod edit;
 mod edit_key;
+mod entry;
 mod esn_sent;
 mod fields;
 mod laws;
@@ -13,6 +14,7 @@ mod text;
 pub use difference::Difference;
 pub use edit::Edit;
 pub use edit_key::EditKey;
+pub use entry::Entry;
 pub use esn_sent::EsnSent;
 pub use laws::{
     bytes_are_of_one_edit, bytes_are_read_as_written, texts_are_of_one_edit,

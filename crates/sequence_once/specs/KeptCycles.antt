@@ -88,6 +88,10 @@ after_note s company code = record s { kept = with_company company (note_last co
 abbrev pub codes_of : List ℕ → ℕ → List CycleRecord → Option (List ℕ)
 codes_of company cycle kept = option_map (λ k. k.codes) (find (λ k. k.cycle == cycle) (of_company company kept))
 
+-- how many lines the file of a company's cycle has, where it is kept
+abbrev pub count_of : List ℕ → ℕ → List CycleRecord → Option ℕ
+count_of company cycle kept = option_map (λ k. k.count) (find (λ k. k.cycle == cycle) (of_company company kept))
+
 -- by company, and then by cycle
 abbrev pub cycle_order : CycleRecord → CycleRecord → Ordering
 cycle_order x y = ordering_then (company_order x y.company) (nat_cmp x.cycle y.cycle)

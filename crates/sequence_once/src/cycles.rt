@@ -1,7 +1,7 @@
 //! The kept cycles of all companies.
 ghost use Rattle.std.specs.Prelude.{◌≡◌, ◌≢◌, ℕ, List, ◌+◌, ◌-◌, ◌^◌, ◌<◌, ◌≤◌, ◌==◌, [], length, false, find, insert, remove, slice_get, slice_range, option_map, IfOk, OnOk, OnErr, Some, Ok, Err, ◌↔◌, if◌then◌else◌};
 ghost use Rattle.std.specs.Option.{option_copied};
-ghost use Rattle.sequence_once.specs.KeptCycles.{IsSound, of_company, before_company, newest, last_of, is_last_finished, opened, after_open, after_note, codes_of};
+ghost use Rattle.sequence_once.specs.KeptCycles.{IsSound, of_company, before_company, newest, last_of, is_last_finished, opened, after_open, after_note, codes_of, count_of};
 ghost use Rattle.sequence_once.specs.CycleStanding.{last_number, oldest_number, is_full, repeated, standing_among, standing_of};
 ghost use Rattle.sequence_once.specs.CycleReaders.{last_shown, record_of};
 ghost use Rattle.sequence_once.specs.declared.standing.Standing.TheVariants.{New};
@@ -114,6 +114,14 @@ impl Cycles {
     {
         let entry = find_cycle(self.cycles_of(company), cycle)?;
         Some(entry.codes())
+    }
+
+    /// How many lines the file of a company's cycle has, where it is kept.
+    pub fn count(&self, company: Company, cycle: Cycle) -> Option<u32>
+        ensures { result ≡ count_of company cycle self.now.kept }
+    {
+        let entry = find_cycle(self.cycles_of(company), cycle)?;
+        Some(entry.count())
     }
 
     /// The last cycle of a company.

@@ -13,6 +13,7 @@ use Rattle.batch_frame.specs.CarrierFile.{separator_of, record_at}
 use Rattle.batch_frame.specs.FrameFault.{found, header_of, trailer_of, header_fault, trailer_fault, company_fault}
 use Rattle.batch_frame.proofs.Faults.{at_length, at_many, at_separator, at_header, at_trailer, at_company, at_count, company_fault_at, count_fault_at}
 use Rattle.batch_frame.proofs.Records.{framed_room, told}
+use Rattle.batch_frame.proofs.Readings.{is_file_of}
 use Rattle.batch_frame.proofs.file.read_file.Goals as goal
 
 not_true : (b : Bool) → not b ≡ true → b ≡ false
@@ -23,18 +24,18 @@ not_false : (b : Bool) → not b ≡ false → b ≡ true
 not_false true h = refl
 not_false false h = absurd (cc)
 
-pub returns-in_err-check_length : goal.returns-in_err-check_length
-returns-in_err-check_length c =
+pub returns-in_err-check_length-clause-read : goal.returns-in_err-check_length-clause-read
+returns-in_err-check_length-clause-read c =
     let p = err_from_is_err_and c.from_residual.result c.from_residual.ensures.1 in
     rw (p.1, p.2) (at_length _ _ c.in_err-check_length.ensures)
 
-pub returns-in_err-count : goal.returns-in_err-count
-returns-in_err-count c =
+pub returns-in_err-count-clause-read : goal.returns-in_err-count-clause-read
+returns-in_err-count-clause-read c =
     let p = err_from_is_err_and c.from_residual-in_err-count.result c.from_residual-in_err-count.ensures.1 in
     rw (p.1, p.2) (at_many _ _ c.in_ok-check_length.ensures c.in_err-count.ensures)
 
-pub returns-in_err-check_separators : goal.returns-in_err-check_separators
-returns-in_err-check_separators c =
+pub returns-in_err-check_separators-clause-read : goal.returns-in_err-check_separators-clause-read
+returns-in_err-check_separators-clause-read c =
     let p = err_from_is_err_and c.from_residual-in_err-check_separators.result c.from_residual-in_err-check_separators.ensures.1 in
     rw (p.1, p.2) (at_separator _ _ c.in_ok-check_length.ensures c.in_ok-count.ensures.0 c.in_err-check_separators.ensures)
 
@@ -53,15 +54,15 @@ trailer_lent : (bytes trailer : List ℕ) (s : Separator) (count : ℕ) → s �
 trailer_lent bytes trailer s count same counted is =
     is ∙ ap (λ s. record_at s (count + 1) bytes) same ∙ ap (λ n. record_at (separator_of bytes) (n + 1) bytes) counted
 
-pub returns-in_err-header : goal.returns-in_err-header
-returns-in_err-header c =
+pub returns-in_err-header-clause-read : goal.returns-in_err-header-clause-read
+returns-in_err-header-clause-read c =
     let header = header_lent _ _ _ c.separator_of-separator.ensures c.record_at.ensures in
     let p = err_from_is_err_and c.from_residual-in_err-header.result c.from_residual-in_err-header.ensures.1 in
     rw (p.1, p.2) (at_header _ _ c.in_ok-check_length.ensures c.in_ok-count.ensures.0 c.in_ok-check_separators.ensures
     (ap (λ h. option_map faults.Header (header_fault h)) (sym header) ∙ c.in_err-header.ensures))
 
-pub returns-in_err-trailer : goal.returns-in_err-trailer
-returns-in_err-trailer c =
+pub returns-in_err-trailer-clause-read : goal.returns-in_err-trailer-clause-read
+returns-in_err-trailer-clause-read c =
     let header = header_lent _ _ _ c.separator_of-separator.ensures c.record_at.ensures in
     let trailer = trailer_lent _ _ _ _ c.separator_of-separator.ensures c.in_ok-count.ensures.1 c.record_at-2.ensures in
     let p = err_from_is_err_and c.from_residual-in_err-trailer.result c.from_residual-in_err-trailer.ensures.1 in
@@ -69,8 +70,8 @@ returns-in_err-trailer c =
     (ap header_fault (sym header) ∙ c.in_ok-header.ensures.0)
     (ap (λ h. option_map faults.Trailer (trailer_fault h)) (sym trailer) ∙ c.in_err-trailer.ensures))
 
-pub returns-then-ne : goal.returns-then-ne
-returns-then-ne c =
+pub returns-then-ne-clause-read : goal.returns-then-ne-clause-read
+returns-then-ne-clause-read c =
     let sent = c.in_ok-header.header.company in
     let named = c.in_ok-trailer.trailer.company in
     let header = header_lent _ _ _ c.separator_of-separator.ensures c.record_at.ensures in
@@ -88,8 +89,8 @@ one_company : (bytes header trailer sent named : List ℕ) → header ≡ header
 one_company bytes header trailer sent named h t a b e =
     company_fault_at _ _ sent named true (ap (λ h. company_of (columns h 10 14)) (sym h) ∙ a) (ap (λ h. company_of (columns h 10 14)) (sym t) ∙ b) e
 
-pub returns-then-trailer-count : goal.returns-then-trailer-count
-returns-then-trailer-count c =
+pub returns-then-trailer-count-clause-read : goal.returns-then-trailer-count-clause-read
+returns-then-trailer-count-clause-read c =
     let header = header_lent _ _ _ c.separator_of-separator.ensures c.record_at.ensures in
     let trailer = trailer_lent _ _ _ _ c.separator_of-separator.ensures c.in_ok-count.ensures.1 c.record_at-2.ensures in
     let same : bytes_eq c.in_ok-header.header.company c.in_ok-trailer.trailer.company ≡ true = not_false _ (sym c.ne.ensures ∙ c.if-ne.false) in
@@ -123,5 +124,8 @@ invariant_of-result c =
     (ap (λ h. cycle_of (columns h 15 20)) (sym header) ∙ c.in_ok-header.ensures.3)
     (ap (λ h. day_of (columns h 4 9)) (sym header) ∙ c.in_ok-header.ensures.1)
 
-pub returns : goal.returns
-returns c = invariant_of-result c
+pub returns-clause-read : goal.returns-clause-read
+returns-clause-read c = invariant_of-result c
+
+pub returns-clause-value : goal.returns-clause-value
+returns-clause-value c = is_file_of _ _ (invariant_of-result c)
