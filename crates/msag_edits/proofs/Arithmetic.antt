@@ -5,7 +5,8 @@ use Rattle.std.proofs.lemmas.Bool.Decides.{nat_tests}
 use Rattle.ali_base.specs.StreetGuide.{has_parity}
 use Rattle.ali_base.specs.declared.parity.Parity.{Parity}
 use Rattle.ali_base.specs.declared.parity.Parity.TheVariants.{Odd, Even, Both}
-use Rattle.msag_edits.specs.HouseArithmetic.{added, stays_house, is_odd, is_one_parity, last_to, first_above}
+use Rattle.number_table.specs.HouseArithmetic.{added, stays_house}
+use Rattle.msag_edits.specs.HouseArithmetic.{is_odd, is_one_parity, last_to, first_above}
 
 -- the number has the parity, as a fact
 abbrev pub Has : Parity → ℕ → Type 0
@@ -77,11 +78,6 @@ added-parity Odd n (pos d) h s k = grind (arith, nat_tests)
 added-parity Odd n (negsuc d) h s k = grind (arith, nat_tests)
 added-parity Even n (pos d) h s k = grind (arith, nat_tests)
 added-parity Even n (negsuc d) h s k = grind (arith, nat_tests)
-
--- what stays a house number
-pub stays-between : (low n high : ℕ) (by : ℤ) → low ≤ n → n ≤ high → stays_house low by ≡ true → stays_house high by ≡ true → stays_house n by ≡ true
-stays-between low n high (pos d) a b s t = grind (arith, nat_tests)
-stays-between low n high (negsuc d) a b s t = grind (arith, nat_tests)
 
 -- the order of numbers stays
 pub added-order : (m n : ℕ) (by : ℤ) → m ≤ n → added m by ≤ added n by

@@ -2,5 +2,4 @@ pub mod Arithmetic
 pub mod Ranges
 pub mod RowFields
 pub mod Soundness
-pub mod RowTables
 pub mod PartsAndShifts

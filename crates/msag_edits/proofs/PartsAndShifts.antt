@@ -5,10 +5,12 @@ use Rattle.std.proofs.lemmas.Bool.Decides.{nat_tests}
 use Rattle.ali_base.specs.StreetGuide.{HasSoundEnds, is_held}
 use Rattle.ali_base.specs.declared.range.Range.{Range}
 use Rattle.msag_ranges.proofs.Overlapping.{both, and-true}
-use Rattle.msag_edits.specs.HouseArithmetic.{added, stays_house, is_odd, is_one_parity}
+use Rattle.number_table.specs.HouseArithmetic.{added, stays_house}
+use Rattle.msag_edits.specs.HouseArithmetic.{is_odd, is_one_parity}
 use Rattle.msag_edits.specs.EditRules.{has_empty_part, lower_part, upper_part, shifted}
-use Rattle.msag_edits.proofs.Arithmetic.{last_to-is, first_above-is, none_between, added-order, added-parity, stays-between, removed, removed-added, removed-parity, removed-order}
-use Rattle.msag_edits.proofs.Ranges.{held-parts, held-from, both_parts, not_true}
+use Rattle.number_table.proofs.HeldAddresses.{stays-between, held-parts, held-from}
+use Rattle.msag_edits.proofs.Arithmetic.{last_to-is, first_above-is, none_between, added-order, added-parity, removed, removed-added, removed-parity, removed-order}
+use Rattle.msag_edits.proofs.Ranges.{both_parts, not_true}
 
 -- tests that say the same are the same
 same_tests : (a b : Bool) → (a ≡ true → b ≡ true) → (b ≡ true → a ≡ true) → a ≡ b

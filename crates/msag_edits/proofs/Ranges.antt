@@ -1,16 +1,18 @@
 -- Ranges among the others of a guide.
-use Rattle.std.proofs.Common.{◌≡◌, ◌≢◌, ℕ, ◌<◌, ◌≤◌, ◌==◌, Bool, true, false, cond, ◌&&◌, not, nat_le, ℤ, List, [], ◌∷◌, get_or, map, refl, sym, ap, subst, ◌∙◌, arith, Option, Some, None, suc, ◌⊎◌, inl, inr, All, AllPairs, filter, find, IfSome, Contains}
+use Rattle.std.proofs.Common.{◌≡◌, ◌≢◌, ℕ, ◌<◌, ◌≤◌, ◌==◌, Bool, true, false, cond, ◌&&◌, not, ℤ, List, [], ◌∷◌, get_or, map, refl, sym, ap, subst, ◌∙◌, arith, Option, Some, None, suc, ◌⊎◌, inl, inr, All, AllPairs, filter, find, IfSome, Contains}
 use Rattle.std.proofs.lemmas.List.{get_or_default}
 use Rattle.std.proofs.lemmas.List.Elements.{All-tail, All-head, All-contains, All-map, All-weaker, Contains-get_or}
 use Rattle.ali_base.specs.StreetKey.{same_key}
 use Rattle.std.proofs.lemmas.Bool.Decides.{nat_tests}
-use Rattle.ali_base.specs.StreetGuide.{has_parity, HasSoundEnds, IsSoundGuide, MayStand, Overlap, overlaps, least, least_overlap, is_other, holds, is_held, range_of, moved, with_moved}
+use Rattle.ali_base.specs.StreetGuide.{HasSoundEnds, IsSoundGuide, MayStand, Overlap, overlaps, least, least_overlap, is_other, holds, is_held, range_of, moved, with_moved}
 use Rattle.ali_base.specs.declared.range.Range.{Range}
 use Rattle.ali_base.specs.declared.street_key.StreetKey.{StreetKey}
 use Rattle.ali_base.specs.Steps.{when}
-use Rattle.msag_edits.specs.HouseArithmetic.{added, stays_house, is_odd, is_one_parity, last_to, first_above}
+use Rattle.number_table.specs.HouseArithmetic.{added, stays_house}
+use Rattle.msag_edits.specs.HouseArithmetic.{is_odd, is_one_parity, last_to, first_above}
 use Rattle.msag_edits.specs.EditRules.{upper_part, has_empty_part}
 use Rattle.msag_edits.proofs.Arithmetic.{choice, last_to-is, first_above-is, added-order, added-parity}
+use Rattle.number_table.proofs.HeldAddresses.{Holds, held-parts, held-from}
 use Rattle.msag_ranges.proofs.Overlapping.{both, and-true, overlaps-found}
 
 -- the first element that passes is one of the list, and passes
@@ -82,22 +84,6 @@ one_of_id xs s t different a b e =
         | inr same ↦ sym at-s ∙ ap (λ (i : ℕ). get_or xs i s) same ∙ at-t
       ]
     ]
-
--- what the numbers of a range are
-abbrev pub Holds : Range → ℕ → Type 0
-Holds r n = (r.low ≤ n) × (n ≤ r.high) × (has_parity r.parity n ≡ true)
-
-pub held-parts : (r : Range) (n : ℕ) → is_held r n ≡ true → Holds r n
-held-parts r n h =
-    let w = both _ _ h in
-    let v = both (nat_le r.low n) (nat_le n r.high) w.0 in
-    (grind (arith, nat_tests), grind (arith, nat_tests), w.1)
-
-pub held-from : (r : Range) (n : ℕ) → Holds r n → is_held r n ≡ true
-held-from r n h =
-    let l : nat_le r.low n ≡ true = grind (arith, nat_tests) in
-    let u : nat_le n r.high ≡ true = grind (arith, nat_tests) in
-    and-true _ _ (and-true _ _ l u) h.2
 
 -- each number of s is one of r, of the same street
 pub record IsPartOf (s r : Range) : Type 0 where

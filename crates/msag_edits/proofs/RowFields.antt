@@ -1,27 +1,16 @@
 -- What a row keeps when its house number or its emergency service number is written anew.
-use Rattle.std.proofs.Common.{◌≡◌, ℕ, ◌+◌, ◌≤◌, true, false, Bool, List, ◌++◌, length, take, drop, refl, ap, sym, ◌∙◌, subst, arith, Some, None, length-append, length-drop}
-use Rattle.std.specs.Option.{option_map_or}
+use Rattle.std.proofs.Common.{◌≡◌, ℕ, ◌+◌, ◌≤◌, List, ◌++◌, length, take, drop, ap, sym, ◌∙◌, arith, Some, length-append, length-drop}
 use Rattle.std.proofs.lemmas.List.{length-take-le}
 use Rattle.ali_base.specs.HouseNumber.{house_of, house_text}
 use Rattle.ali_base.specs.Numbers.{zero_padded}
-use Rattle.ali_base.specs.StreetGuide.{holds}
 use Rattle.ali_base.specs.StreetKey.{street_key}
-use Rattle.ali_base.specs.declared.range.Range.{Range}
 use Rattle.ali_record.specs.Layout.{field_of}
 use Rattle.ali_record.specs.Address.{record_key}
 use Rattle.ali_record.specs.FieldChanges.{with_house, with_esn}
 use Rattle.ali_record.specs.declared.field.Field.TheVariants.{HouseNumber, Esn, PrefixDirectional, StreetName, StreetSuffix, PostDirectional, Community, State}
 use Rattle.ali_record.proofs.Overwriting.{over, part_before, part_after, part_inside}
 use Rattle.ali_record.proofs.FieldTexts.{length-house_text, house_of-text, length-esn_text}
-use Rattle.std.proofs.Common.{ℤ, IsSome}
-use Rattle.ali_base.specs.Steps.{when}
-use Rattle.ali_base.specs.StreetGuide.{is_held}
-use Rattle.ali_base.specs.StreetKey.{same_key}
-use Rattle.msag_edits.specs.HouseArithmetic.{stays_house}
-use Rattle.msag_edits.proofs.Arithmetic.{stays-between}
-use Rattle.msag_edits.proofs.Ranges.{held-parts}
-use Rattle.msag_ranges.proofs.Overlapping.{both}
-use Rattle.msag_edits.specs.Rows.{holds_record, record_house}
+use Rattle.number_table.specs.HeldRows.{record_house}
 
 length-over : (b text : List ℕ) (p q : ℕ) → p + length text ≡ q → q ≤ length b → length (over b p q text) ≡ length b
 length-over b text p q size inside =
@@ -91,29 +80,3 @@ esn-key b n len small =
     ∙ ap (λ f. street_key (field_of b Community) (field_of b State) (field_of b PrefixDirectional) f (field_of (with_esn b n) StreetSuffix) (field_of (with_esn b n) PostDirectional)) (before 27 60 (omega arith))
     ∙ ap (λ f. street_key (field_of b Community) (field_of b State) (field_of b PrefixDirectional) (field_of b StreetName) f (field_of (with_esn b n) PostDirectional)) (before 87 4 (omega arith))
     ∙ ap (λ f. street_key (field_of b Community) (field_of b State) (field_of b PrefixDirectional) (field_of b StreetName) (field_of b StreetSuffix) f) (before 91 2 (omega arith))
-
--- the address of a record that a range holds
-pub held-address : (r : Range) (b : List ℕ) → holds_record r b ≡ true → (n : ℕ) × (record_house b ≡ Some n) × (holds r (record_key b) n ≡ true)
-held-address r b h =
-    elim (record_house b) as (λ o. record_house b ≡ o → option_map_or (λ n. holds r (record_key b) n) o false ≡ true → (n : ℕ) × (record_house b ≡ Some n) × (holds r (record_key b) n ≡ true))
-    [ None ↦ (λ e k. absurd cc) | Some n ↦ (λ e k. (n, e, k)) ] refl h
-
-pub held-by : (r : Range) (b : List ℕ) (n : ℕ) → record_house b ≡ Some n → holds r (record_key b) n ≡ true → holds_record r b ≡ true
-held-by r b n e h = ap (λ o. option_map_or (λ n. holds r (record_key b) n) o false) e ∙ h
-
--- a record of the same address is held by the same ranges
-pub same-address : (r : Range) (b c : List ℕ) → record_key c ≡ record_key b → record_house c ≡ record_house b → holds_record r c ≡ holds_record r b
-same-address r b c key house =
-    ap (λ o. option_map_or (λ n. holds r (record_key c) n) o false) house ∙ ap (λ k. option_map_or (λ n. holds r k n) (record_house b) false) key
-
--- the house number of a row that a range holds stays one where the ends do
-pub held-stays : (r : Range) (b : List ℕ) (n : ℕ) (by : ℤ) → holds_record r b ≡ true → record_house b ≡ Some n → stays_house r.low by ≡ true → stays_house r.high by ≡ true → stays_house n by ≡ true
-held-stays r b n by h house low high =
-    let a = held-address r b h in
-    let one : a.0 ≡ n = let e : Some a.0 ≡ Some n = sym a.1 ∙ house in cc in
-    let w = held-parts r a.0 (both (same_key r.key (record_key b)) (is_held r a.0) a.2).1 in
-    subst (λ (m : ℕ). stays_house m by ≡ true) one (stays-between r.low a.0 r.high by w.0 w.1 low high)
-
-pub when-there : {X : Type 0} (b : Bool) (x : X) → b ≡ true → IsSome (when b x)
-when-there true x h = refl
-when-there false x h = cc

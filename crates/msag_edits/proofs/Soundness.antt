@@ -8,7 +8,9 @@ use Rattle.std.proofs.lemmas.List.Elements.{Contains-append_left, Contains-push,
 use Rattle.std.proofs.lemmas.Bool.Decides.{nat_tests}
 use Rattle.ali_base.specs.StreetGuide.{StreetGuide, IsSoundGuide, new_range, least_overlap, holds, is_held, moved, with_moved, without}
 use Rattle.ali_base.specs.declared.range.Range.{Range}
-use Rattle.msag_edits.specs.Rows.{count_held, RowMap, StoredRow, AreChanged, holds_row, least_held, tn_cmp, record_house, esn_row, shifted_row}
+use Rattle.number_life.specs.declared.row.Row.{Row}
+use Rattle.number_table.specs.NumberTable.{NumberTable, tn_cmp}
+use Rattle.number_table.specs.HeldRows.{count_held, AreChanged, holds_row, least_held, record_house, esn_row, shifted_row}
 use Rattle.msag_edits.specs.EditRules.{EditAct, upper_part, shifted, has_empty_part, is_esn, refused, done, new_id, unless_overlap, for_range, unused, on_range, nothing, add_act, retire_verdict, split_verdict, split_act, renumber_verdict, renumber_act, set_esn_verdict, set_esn_act}
 use Rattle.msag_edits.specs.Edits.{edit_verdict, edit_act}
 use Rattle.msag_edits.specs.declared.edit_verdict.EditVerdict.{EditVerdict}
@@ -16,17 +18,19 @@ use Rattle.office_entry.specs.declared.edit.Edit.{Edit}
 use Rattle.office_entry.specs.declared.edit.Edit.TheVariants.{Add, Retire, Split, Renumber, SetEsn}
 use Rattle.ali_base.specs.declared.parity.Parity.{Parity}
 use Rattle.ali_base.specs.declared.street_key.StreetKey.{StreetKey}
-use Rattle.msag_edits.specs.HouseArithmetic.{added, stays_house, is_odd, is_one_parity, last_to}
+use Rattle.number_table.specs.HouseArithmetic.{added, stays_house}
+use Rattle.msag_edits.specs.HouseArithmetic.{is_odd, is_one_parity, last_to}
 use Rattle.ali_record.specs.FieldChanges.{with_house, with_esn}
 use Rattle.ali_base.specs.Numbers.{zero_padded}
 use Rattle.ali_base.specs.StreetKey.{same_key}
 use Rattle.std.specs.Ordering.{eq_by_cmp}
 use Rattle.msag_ranges.proofs.Overlapping.{both, and-true}
-use Rattle.msag_edits.proofs.Arithmetic.{choice, not_both, none_between, added-order, added-parity, added-limit, stays-between}
+use Rattle.number_table.proofs.HeldAddresses.{stays-between, held-parts, held-from, held-address, held-by, same-address}
+use Rattle.msag_edits.proofs.Arithmetic.{choice, not_both, none_between, added-order, added-parity, added-limit}
 use Rattle.ali_record.specs.Address.{record_key}
 use Rattle.ali_base.specs.StreetGuide.{range_of}
-use Rattle.msag_edits.proofs.Ranges.{live, one_of_id, different_ids, one_holder, held-parts, held-from}
-use Rattle.msag_edits.proofs.RowFields.{held-address, held-by, same-address, house-size, house-there, house-key, house-esn, esn-size, esn-there, esn-house, esn-key}
+use Rattle.msag_edits.proofs.Ranges.{live, one_of_id, different_ids, one_holder}
+use Rattle.msag_edits.proofs.RowFields.{house-size, house-there, house-key, house-esn, esn-size, esn-there, esn-house, esn-key}
 use Rattle.msag_edits.specs.GuideSoundness.{IsPlaced, ArePlaced, AreSound}
 
 -- ---- elements of changed lists
@@ -51,12 +55,12 @@ Contains-map f (y ∷ ys) x (suc k, lt, is) =
 -- ---- the range of an id
 
 -- ranges that hold the same row are one
-one_of_row : (g : StreetGuide) (rows : RowMap) (s r : Range) (row : StoredRow) → AreSound g rows → Contains g.ranges s → Contains g.ranges r → holds_row s row ≡ true → holds_row r row ≡ true → s ≡ r
+one_of_row : (g : StreetGuide) (rows : NumberTable) (s r : Range) (row : Row) → AreSound g rows → Contains g.ranges s → Contains g.ranges r → holds_row s row ≡ true → holds_row r row ≡ true → s ≡ r
 one_of_row g rows s r row sound a b h k =
-    let p = held-address s row.bytes h in
-    let q = held-address r row.bytes k in
+    let p = held-address s row.rec h in
+    let q = held-address r row.rec k in
     let one : p.0 ≡ q.0 = let e : Some p.0 ≡ Some q.0 = sym p.1 ∙ q.1 in cc in
-    one_holder g.ranges s r sound.apart a b (record_key row.bytes, p.0, p.2, subst (λ (n : ℕ). holds r (record_key row.bytes) n ≡ true) (sym one) q.2)
+    one_holder g.ranges s r sound.apart a b (record_key row.rec, p.0, p.2, subst (λ (n : ℕ). holds r (record_key row.rec) n ≡ true) (sym one) q.2)
 
 at_most : (n m : ℕ) → (m < n → ⊥) → n ≤ m
 at_most n m h = grind (arith, nat_tests)
@@ -67,7 +71,7 @@ different-test a b h = grind (arith, nat_tests)
 -- ---- rows that stay, and rows that are changed
 
 -- a row that the range of the id does not hold is placed as before
-placed-other : (g : StreetGuide) (rows : RowMap) (id low high esn : ℕ) (r : Range) (row : StoredRow) → AreSound g rows → range_of g.ranges id ≡ Some r
+placed-other : (g : StreetGuide) (rows : NumberTable) (id low high esn : ℕ) (r : Range) (row : Row) → AreSound g rows → range_of g.ranges id ≡ Some r
     → holds_row r row ≡ false → IsPlaced g.ranges row → IsPlaced (with_moved g.ranges id low high esn) row
 placed-other g rows id low high esn r row sound found free p =
     let w = live g.ranges id r found in
@@ -92,8 +96,8 @@ moved-live xs id low high esn r found =
     subst (Contains (with_moved xs id low high esn)) (ap (λ b. cond b (moved r low high esn) r) test) (Contains-map (λ t. cond (t.id == id) (moved t low high esn) t) xs r w.0)
 
 -- rows that were placed are placed after a change
-placed-through : (xs ys : List Range) (change : StoredRow → StoredRow) (rows after : RowMap) → AreChanged change rows after → ArePlaced xs rows
-    → ((tn : List ℕ) (row : StoredRow) → get rows tn ≡ Some row → IsPlaced xs row → IsPlaced ys (change row)) → ArePlaced ys after
+placed-through : (xs ys : List Range) (change : Row → Row) (rows after : NumberTable) → AreChanged change rows after → ArePlaced xs rows
+    → ((tn : List ℕ) (row : Row) → get rows tn ≡ Some row → IsPlaced xs row → IsPlaced ys (change row)) → ArePlaced ys after
 placed-through xs ys change rows after each placed step = λ tn.
     subst (λ o. IfSome o (λ row. IsPlaced ys row)) (sym (each tn))
     (elim (get rows tn) as (λ o. get rows tn ≡ o → IfSome o (λ row. IsPlaced xs row) → IfSome (option_map change o) (λ row. IsPlaced ys row))
@@ -101,22 +105,22 @@ placed-through xs ys change rows after each placed step = λ tn.
 
 -- ---- ADD
 
-placed-add : (xs : List Range) (r : Range) (row : StoredRow) → IsPlaced xs row → IsPlaced (xs ++ r ∷ []) row
+placed-add : (xs : List Range) (r : Range) (row : Row) → IsPlaced xs row → IsPlaced (xs ++ r ∷ []) row
 placed-add xs r row p = record { size = p.size; range = p.range; live = Contains-append_left xs (r ∷ []) p.range p.live; held = p.held; esn = p.esn }
 
 -- ---- RETIRE
 
-unused-row : (es : List (List ℕ × StoredRow)) (r : Range) (tn : List ℕ) (row : StoredRow) → option_map (λ e. e.0) (find (λ (e : List ℕ × StoredRow). holds_row r e.1) es) ≡ None → ordered.find tn_cmp tn es ≡ Some row → holds_row r row ≡ false
+unused-row : (es : List (List ℕ × Row)) (r : Range) (tn : List ℕ) (row : Row) → option_map (λ e. e.0) (find (λ (e : List ℕ × Row). holds_row r e.1) es) ≡ None → ordered.find tn_cmp tn es ≡ Some row → holds_row r row ≡ false
 unused-row [] r tn row h k = absurd cc
 unused-row (e ∷ es) r tn row h k =
-    elim (holds_row r e.1) as (λ b. holds_row r e.1 ≡ b → option_map (λ (x : List ℕ × StoredRow). x.0) (cond b (Some e) (find (λ (x : List ℕ × StoredRow). holds_row r x.1) es)) ≡ None → holds_row r row ≡ false) [
+    elim (holds_row r e.1) as (λ b. holds_row r e.1 ≡ b → option_map (λ (x : List ℕ × Row). x.0) (cond b (Some e) (find (λ (x : List ℕ × Row). holds_row r x.1) es)) ≡ None → holds_row r row ≡ false) [
       | true ↦ (λ t n. absurd cc)
       | false ↦ (λ t n.
           elim (eq_by_cmp tn_cmp tn e.0) as (λ b. cond b (Some e.1) (ordered.find tn_cmp tn es) ≡ Some row → holds_row r row ≡ false)
           [ true ↦ (λ s. let is : e.1 ≡ row = cc in subst (λ x. holds_row r x ≡ false) is t) | false ↦ (λ s. unused-row es r tn row n s) ] k)
     ] refl h
 
-placed-retire : (g : StreetGuide) (rows : RowMap) (id : ℕ) (r : Range) (tn : List ℕ) (row : StoredRow) → AreSound g rows → range_of g.ranges id ≡ Some r → least_held rows r ≡ None
+placed-retire : (g : StreetGuide) (rows : NumberTable) (id : ℕ) (r : Range) (tn : List ℕ) (row : Row) → AreSound g rows → range_of g.ranges id ≡ Some r → least_held rows r ≡ None
     → get rows tn ≡ Some row → IsPlaced g.ranges row → IsPlaced (without g.ranges id) row
 placed-retire g rows id r tn row sound found none has p =
     let w = live g.ranges id r found in
@@ -135,47 +139,47 @@ placed-retire g rows id r tn row sound found none has p =
 -- ---- SETESN
 
 -- a row that gets the emergency service number of a range that holds it is placed there
-placed-esn : (ys : List Range) (s : Range) (row : StoredRow) → length row.bytes ≡ 512 → s.esn ≤ 99_999 → Contains ys s → holds_row s row ≡ true → IsPlaced ys (record row { bytes = with_esn row.bytes s.esn })
+placed-esn : (ys : List Range) (s : Range) (row : Row) → length row.rec ≡ 512 → s.esn ≤ 99_999 → Contains ys s → holds_row s row ≡ true → IsPlaced ys (record row { rec = with_esn row.rec s.esn })
 placed-esn ys s row size small there held = record {
-  size = esn-size row.bytes s.esn size small;
+  size = esn-size row.rec s.esn size small;
   range = s;
   live = there;
-  held = same-address s row.bytes (with_esn row.bytes s.esn) (esn-key row.bytes s.esn size small) (esn-house row.bytes s.esn size small) ∙ held;
-  esn = esn-there row.bytes s.esn size small;
+  held = same-address s row.rec (with_esn row.rec s.esn) (esn-key row.rec s.esn size small) (esn-house row.rec s.esn size small) ∙ held;
+  esn = esn-there row.rec s.esn size small;
 }
 
-placed-set_esn : (g : StreetGuide) (rows : RowMap) (id esn : ℕ) (r : Range) (row : StoredRow) → AreSound g rows → range_of g.ranges id ≡ Some r → esn ≤ 99_999
+placed-set_esn : (g : StreetGuide) (rows : NumberTable) (id esn : ℕ) (r : Range) (row : Row) → AreSound g rows → range_of g.ranges id ≡ Some r → esn ≤ 99_999
     → IsPlaced g.ranges row → IsPlaced (with_moved g.ranges id r.low r.high esn) (esn_row r esn row)
 placed-set_esn g rows id esn r row sound found small p =
     let ys = with_moved g.ranges id r.low r.high esn in
-    choice (holds_row r row) (record row { bytes = with_esn row.bytes esn }) row (IsPlaced ys)
+    choice (holds_row r row) (record row { rec = with_esn row.rec esn }) row (IsPlaced ys)
     (λ h. placed-esn ys (moved r r.low r.high esn) row p.size small (moved-live g.ranges id r.low r.high esn r found) h)
     (λ h. placed-other g rows id r.low r.high esn r row sound found h p)
 
 -- ---- SPLIT
 
 -- what the upper part does not hold, the lower part holds
-not_above : (r : Range) (new at esn : ℕ) (row : StoredRow) → holds_row r row ≡ true → holds_row (upper_part r new at esn) row ≡ false → holds_row (moved r r.low (last_to r.parity at) r.esn) row ≡ true
+not_above : (r : Range) (new at esn : ℕ) (row : Row) → holds_row r row ≡ true → holds_row (upper_part r new at esn) row ≡ false → holds_row (moved r r.low (last_to r.parity at) r.esn) row ≡ true
 not_above r new at esn row k h =
-    let a = held-address r row.bytes k in
+    let a = held-address r row.rec k in
     let n : ℕ = a.0 in
-    let q = both (same_key r.key (record_key row.bytes)) (is_held r n) a.2 in
+    let q = both (same_key r.key (record_key row.rec)) (is_held r n) a.2 in
     let w = held-parts r n q.1 in
     let gap = none_between r.parity at n w.2 in
     let s : Range = upper_part r new at esn in
     let below : n ≤ at = at_most n at (λ gt.
     let held : is_held s n ≡ true = held-from s n (gap.1 gt, w.1, w.2) in
-    not_both (holds_row s row) (held-by s row.bytes n a.1 (and-true _ _ q.0 held)) h) in
-    held-by (moved r r.low (last_to r.parity at) r.esn) row.bytes n a.1 (and-true _ _ q.0 (held-from (moved r r.low (last_to r.parity at) r.esn) n (w.0, gap.0 below, w.2)))
+    not_both (holds_row s row) (held-by s row.rec n a.1 (and-true _ _ q.0 held)) h) in
+    held-by (moved r r.low (last_to r.parity at) r.esn) row.rec n a.1 (and-true _ _ q.0 (held-from (moved r r.low (last_to r.parity at) r.esn) n (w.0, gap.0 below, w.2)))
 
-placed-split : (g : StreetGuide) (rows : RowMap) (id new at esn : ℕ) (r : Range) (row : StoredRow) → AreSound g rows → range_of g.ranges id ≡ Some r → esn ≤ 99_999
+placed-split : (g : StreetGuide) (rows : NumberTable) (id new at esn : ℕ) (r : Range) (row : Row) → AreSound g rows → range_of g.ranges id ≡ Some r → esn ≤ 99_999
     → IsPlaced g.ranges row
     → IsPlaced (with_moved g.ranges id r.low (last_to r.parity at) r.esn ++ upper_part r new at esn ∷ []) (esn_row (upper_part r new at esn) esn row)
 placed-split g rows id new at esn r row sound found small p =
     let xs = with_moved g.ranges id r.low (last_to r.parity at) r.esn in
     let s : Range = upper_part r new at esn in
     let lower : Range = moved r r.low (last_to r.parity at) r.esn in
-    choice (holds_row s row) (record row { bytes = with_esn row.bytes esn }) row (IsPlaced (xs ++ s ∷ []))
+    choice (holds_row s row) (record row { rec = with_esn row.rec esn }) row (IsPlaced (xs ++ s ∷ []))
     (λ h. placed-esn (xs ++ s ∷ []) s row p.size small (Contains-push xs s) h)
     (λ h. placed-add xs s row (stay (holds_row r row) refl h))
   where
@@ -194,40 +198,40 @@ placed-split g rows id new at esn r row sound found small p =
 
 -- ---- RENUMBER
 
-placed-renumber : (g : StreetGuide) (rows : RowMap) (id : ℕ) (by : ℤ) (r : Range) (row : StoredRow) → AreSound g rows → range_of g.ranges id ≡ Some r
+placed-renumber : (g : StreetGuide) (rows : NumberTable) (id : ℕ) (by : ℤ) (r : Range) (row : Row) → AreSound g rows → range_of g.ranges id ≡ Some r
     → (is_one_parity r.parity && is_odd by) ≡ false → stays_house r.low by ≡ true → stays_house r.high by ≡ true
     → IsPlaced g.ranges row → IsPlaced (with_moved g.ranges id (added r.low by) (added r.high by) r.esn) (shifted_row r by row)
 placed-renumber g rows id by r row sound found even low high p =
     let ys = with_moved g.ranges id (added r.low by) (added r.high by) r.esn in
-    let new = option_map_or (λ n. added n by) (record_house row.bytes) 0 in
-    choice (holds_row r row) (record row { bytes = with_house row.bytes new }) row (IsPlaced ys)
+    let new = option_map_or (λ n. added n by) (record_house row.rec) 0 in
+    choice (holds_row r row) (record row { rec = with_house row.rec new }) row (IsPlaced ys)
     (λ k.
     let w = live g.ranges id r found in
     let is : p.range ≡ r = one_of_row g rows p.range r row sound p.live w.0 p.held k in
-    let a = held-address r row.bytes k in
+    let a = held-address r row.rec k in
     let n : ℕ = a.0 in
     let m : ℕ = added n by in
     let same : new ≡ m = ap (λ o. option_map_or (λ n. added n by) o 0) a.1 in
-    let q = both (same_key r.key (record_key row.bytes)) (is_held r n) a.2 in
+    let q = both (same_key r.key (record_key row.rec)) (is_held r n) a.2 in
     let at = held-parts r n q.1 in
     let top : r.high ≤ 999_999 = All-contains (λ t. t.high ≤ 999_999) g.ranges r sound.numbers w.0 in
     let stays : stays_house n by ≡ true = stays-between r.low n r.high by at.0 at.1 low high in
     let small : m ≤ 999_999 = added-limit n by (omega (arith, at.1, top)) stays in
     let held : is_held (shifted r by) m ≡ true = held-from (shifted r by) m (added-order r.low n by at.0, added-order n r.high by at.1, added-parity r.parity n by even stays at.2) in
     let size = p.size in
-    subst (λ (x : ℕ). IsPlaced ys (record row { bytes = with_house row.bytes x })) (sym same) (record {
-      size = house-size row.bytes m size small;
+    subst (λ (x : ℕ). IsPlaced ys (record row { rec = with_house row.rec x })) (sym same) (record {
+      size = house-size row.rec m size small;
       range = shifted r by;
       live = moved-live g.ranges id (added r.low by) (added r.high by) r.esn r found;
-      held = held-by (shifted r by) (with_house row.bytes m) m (house-there row.bytes m size small)
-          (subst (λ key. holds (shifted r by) key m ≡ true) (sym (house-key row.bytes m size small)) (and-true _ _ q.0 held));
-      esn = house-esn row.bytes m size small ∙ p.esn ∙ ap (λ (t : Range). zero_padded 5 t.esn) is;
+      held = held-by (shifted r by) (with_house row.rec m) m (house-there row.rec m size small)
+          (subst (λ key. holds (shifted r by) key m ≡ true) (sym (house-key row.rec m size small)) (and-true _ _ q.0 held));
+      esn = house-esn row.rec m size small ∙ p.esn ∙ ap (λ (t : Range). zero_padded 5 t.esn) is;
     }))
     (λ k. placed-other g rows id (added r.low by) (added r.high by) r.esn r row sound found k p)
 
 -- ---- what a verdict of code 0 tells
 
-add-done : (g : StreetGuide) (rows after : RowMap) (key : StreetKey) (low high : ℕ) (parity : Parity) (esn : ℕ) → AreSound g rows
+add-done : (g : StreetGuide) (rows after : NumberTable) (key : StreetKey) (low high : ℕ) (parity : Parity) (esn : ℕ) → AreSound g rows
     → AreChanged (λ row. row) rows after → ArePlaced (add_act g key low high parity esn).ranges after
 add-done g rows after key low high parity esn sound each =
     placed-through g.ranges (add_act g key low high parity esn).ranges (λ row. row) rows after each sound.placed
@@ -254,7 +258,7 @@ was_true false h = absurd cc
 esn-small : (esn : ℕ) → is_esn esn ≡ true → esn ≤ 99_999
 esn-small esn h = let w = both (nat_le 1 esn) (nat_le esn 99_999) h in grind (arith, nat_tests)
 
-retire-done : (g : StreetGuide) (rows after : RowMap) (id : ℕ) → AreSound g rows → (retire_verdict g rows id).code ≡ 0
+retire-done : (g : StreetGuide) (rows after : NumberTable) (id : ℕ) → AreSound g rows → (retire_verdict g rows id).code ≡ 0
     → AreChanged (λ row. row) rows after → ArePlaced (without g.ranges id) after
 retire-done g rows after id sound clear each =
     let w = found-range (range_of g.ranges id) (λ r. unused (least_held rows r)) clear in
@@ -266,7 +270,7 @@ retire-done g rows after id sound clear each =
     no_row None h = refl
     no_row (Some tn) h = absurd (omega arith)
 
-split-done : (g : StreetGuide) (rows after : RowMap) (id at esn : ℕ) → AreSound g rows → (split_verdict g id at esn).code ≡ 0
+split-done : (g : StreetGuide) (rows after : NumberTable) (id at esn : ℕ) → AreSound g rows → (split_verdict g id at esn).code ≡ 0
     → AreChanged (split_act g id at esn).row rows after → ArePlaced (split_act g id at esn).ranges after
 split-done g rows after id at esn sound clear each =
     let test = λ (r : Range). (if has_empty_part r at then refused 505 else (if not (is_esn esn) then refused 508 else new_id g)) in
@@ -285,7 +289,7 @@ split-done g rows after id at esn sound clear each =
     (placed-through g.ranges (act r).ranges (act r).row rows after (subst (λ (a : EditAct). AreChanged a.row rows after) is each) sound.placed
     (λ tn row has p. placed-split g rows id g.next at esn r row sound w.1 small p))
 
-set_esn-done : (g : StreetGuide) (rows after : RowMap) (id esn : ℕ) → AreSound g rows → (set_esn_verdict g rows id esn).code ≡ 0
+set_esn-done : (g : StreetGuide) (rows after : NumberTable) (id esn : ℕ) → AreSound g rows → (set_esn_verdict g rows id esn).code ≡ 0
     → AreChanged (set_esn_act g id esn).row rows after → ArePlaced (set_esn_act g id esn).ranges after
 set_esn-done g rows after id esn sound clear each =
     let test = λ (r : Range). (if not (is_esn esn) then refused 508 else done (count_held rows r)) in
@@ -299,7 +303,7 @@ set_esn-done g rows after id esn sound clear each =
     (placed-through g.ranges (act r).ranges (act r).row rows after (subst (λ (a : EditAct). AreChanged a.row rows after) is each) sound.placed
     (λ tn row has p. placed-set_esn g rows id esn r row sound w.1 small p))
 
-renumber-done : (g : StreetGuide) (rows after : RowMap) (id : ℕ) (by : ℤ) → AreSound g rows → (renumber_verdict g rows id by).code ≡ 0
+renumber-done : (g : StreetGuide) (rows after : NumberTable) (id : ℕ) (by : ℤ) → AreSound g rows → (renumber_verdict g rows id by).code ≡ 0
     → AreChanged (renumber_act g id by).row rows after → ArePlaced (renumber_act g id by).ranges after
 renumber-done g rows after id by sound clear each =
     let last = λ (r : Range). unless_overlap (least_overlap g.ranges (shifted r by) (Some id)) (done (count_held rows r)) in
@@ -317,7 +321,7 @@ renumber-done g rows after id by sound clear each =
     (λ tn row has p. placed-renumber g rows id by r row sound w.1 even.0 ends.0 ends.1 p))
 
 -- an edit that is done leaves each row placed
-pub placed-kept : (g : StreetGuide) (rows after : RowMap) (edit : Edit) → AreSound g rows → (edit_verdict g rows edit).code ≡ 0
+pub placed-kept : (g : StreetGuide) (rows after : NumberTable) (edit : Edit) → AreSound g rows → (edit_verdict g rows edit).code ≡ 0
     → AreChanged (edit_act g edit).row rows after → ArePlaced (edit_act g edit).ranges after
 placed-kept g rows after (Add key low high parity esn) sound clear each = add-done g rows after key low high parity esn sound each
 placed-kept g rows after (Retire id) sound clear each = retire-done g rows after id sound clear each
@@ -326,7 +330,7 @@ placed-kept g rows after (Renumber id by) sound clear each = renumber-done g row
 placed-kept g rows after (SetEsn id esn) sound clear each = set_esn-done g rows after id esn sound clear each
 
 -- guide and rows are sound where the guide is one, and each row is placed
-pub sound-from : (g : StreetGuide) (rows : RowMap) → IsSoundGuide g.ranges g.next g.limit → ArePlaced g.ranges rows → AreSound g rows
+pub sound-from : (g : StreetGuide) (rows : NumberTable) → IsSoundGuide g.ranges g.next g.limit → ArePlaced g.ranges rows → AreSound g rows
 sound-from g rows s placed = record {
   ends = s.ends;
   numbers = s.numbers;
@@ -337,16 +341,16 @@ sound-from g rows s placed = record {
 }
 
 -- the ranges are the old ones and so are the rows
-sound-same : (g new : StreetGuide) (rows after : RowMap) → new ≡ record g { spare = new.spare } → after ≡ rows → IsSoundGuide new.ranges new.next new.limit → AreSound g rows → AreSound new after
+sound-same : (g new : StreetGuide) (rows after : NumberTable) → new ≡ record g { spare = new.spare } → after ≡ rows → IsSoundGuide new.ranges new.next new.limit → AreSound g rows → AreSound new after
 sound-same g new rows after e same guide sound =
     let ranges : new.ranges ≡ g.ranges = ap (λ (x : StreetGuide). x.ranges) e in
-    sound-from new after guide (subst (λ (m : RowMap). ArePlaced new.ranges m) (sym same) (subst (λ (xs : List Range). ArePlaced xs rows) (sym ranges) sound.placed))
+    sound-from new after guide (subst (λ (m : NumberTable). ArePlaced new.ranges m) (sym same) (subst (λ (xs : List Range). ArePlaced xs rows) (sym ranges) sound.placed))
 
 same_or_not : (n : ℕ) → (n ≡ 0) ⊎ (n ≢ 0)
 same_or_not n = grind arith
 
 -- whatever an edit answers, guide and rows stay sound
-pub sound-kept : (g new : StreetGuide) (rows after : RowMap) (edit : Edit) (result : Result EditVerdict NoMemory)
+pub sound-kept : (g new : StreetGuide) (rows after : NumberTable) (edit : Edit) (result : Result EditVerdict NoMemory)
     → IfOk result (λ v. v ≡ edit_verdict g rows edit)
     → IfOk result (λ v. v.code ≡ 0 → new ≡ record g { ranges = (edit_act g edit).ranges; next = (edit_act g edit).next; spare = new.spare })
     → IfOk result (λ v. v.code ≡ 0 → AreChanged (edit_act g edit).row rows after)

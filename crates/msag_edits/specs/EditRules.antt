@@ -7,8 +7,11 @@ use Rattle.ali_base.specs.declared.parity.Parity.{Parity}
 use Rattle.ali_base.specs.declared.range.Range.{Range}
 use Rattle.ali_base.specs.declared.street_key.StreetKey.{StreetKey}
 use Rattle.msag_edits.specs.declared.edit_verdict.EditVerdict.{EditVerdict}
-use Rattle.msag_edits.specs.HouseArithmetic.{added, stays_house, is_odd, is_one_parity, last_to, first_above}
-use Rattle.msag_edits.specs.Rows.{RowMap, StoredRow, count_held, least_held, esn_row, shifted_row}
+use Rattle.number_table.specs.HouseArithmetic.{added, stays_house}
+use Rattle.msag_edits.specs.HouseArithmetic.{is_odd, is_one_parity, last_to, first_above}
+use Rattle.number_life.specs.declared.row.Row.{Row}
+use Rattle.number_table.specs.NumberTable.{NumberTable}
+use Rattle.number_table.specs.HeldRows.{count_held, least_held, esn_row, shifted_row}
 
 -- this code, and this detail
 abbrev pub verdict_of : ℕ → ℕ → EditVerdict
@@ -61,7 +64,7 @@ unused None = done 0
 unused (Some tn) = verdict_of 504 (number_of tn)
 
 -- RETIRE: 501 no such range, 504 in use
-abbrev pub retire_verdict : StreetGuide → RowMap → ℕ → EditVerdict
+abbrev pub retire_verdict : StreetGuide → NumberTable → ℕ → EditVerdict
 retire_verdict g rows id = for_range (range_of g.ranges id) (λ r. unused (least_held rows r))
 
 -- the range holds no number up to `at`, or none above it
@@ -79,14 +82,14 @@ abbrev pub shifted : Range → ℤ → Range
 shifted r by = moved r (added r.low by) (added r.high by) r.esn
 
 -- RENUMBER: 501 no such range, 507 an odd difference on odd or even numbers, 506 an end past 0 or 999,999, 502 overlap with another range; the detail is how many rows it moves
-abbrev pub renumber_verdict : StreetGuide → RowMap → ℕ → ℤ → EditVerdict
+abbrev pub renumber_verdict : StreetGuide → NumberTable → ℕ → ℤ → EditVerdict
 renumber_verdict g rows id by = for_range (range_of g.ranges id) (λ r.
     if is_one_parity r.parity && is_odd by then refused 507 else
     (if not (stays_house r.low by && stays_house r.high by) then refused 506 else
     unless_overlap (least_overlap g.ranges (shifted r by) (Some id)) (done (count_held rows r))))
 
 -- SETESN: 501 no such range, 508 no emergency service number; the detail is how many rows it writes
-abbrev pub set_esn_verdict : StreetGuide → RowMap → ℕ → ℕ → EditVerdict
+abbrev pub set_esn_verdict : StreetGuide → NumberTable → ℕ → ℕ → EditVerdict
 set_esn_verdict g rows id esn = for_range (range_of g.ranges id) (λ r.
     if not (is_esn esn) then refused 508 else done (count_held rows r))
 
@@ -94,7 +97,7 @@ set_esn_verdict g rows id esn = for_range (range_of g.ranges id) (λ r.
 pub record EditAct : Type 0 where
   pub ranges : List Range
   pub next : ℕ
-  pub row : StoredRow → StoredRow
+  pub row : Row → Row
 
 -- nothing is changed
 abbrev pub nothing : StreetGuide → EditAct

@@ -4,11 +4,11 @@ use Rattle.office_entry.specs.declared.edit.Edit.{Edit}
 use Rattle.office_entry.specs.declared.edit.Edit.TheVariants.{Add, Retire, Split, Renumber, SetEsn}
 use Rattle.ali_base.specs.StreetGuide.{StreetGuide}
 use Rattle.msag_edits.specs.declared.edit_verdict.EditVerdict.{EditVerdict}
-use Rattle.msag_edits.specs.Rows.{RowMap}
+use Rattle.number_table.specs.NumberTable.{NumberTable}
 use Rattle.msag_edits.specs.EditRules.{EditAct, add_verdict, retire_verdict, split_verdict, renumber_verdict, set_esn_verdict, add_act, retire_act, split_act, renumber_act, set_esn_act}
 
 -- the code and the detail of an edit
-abbrev pub edit_verdict : StreetGuide → RowMap → Edit → EditVerdict
+abbrev pub edit_verdict : StreetGuide → NumberTable → Edit → EditVerdict
 edit_verdict g rows (Add key low high parity esn) = add_verdict g key low high parity esn
 edit_verdict g rows (Retire id) = retire_verdict g rows id
 edit_verdict g rows (Split id at esn) = split_verdict g id at esn
@@ -32,6 +32,6 @@ makes_range (Renumber id by) = false
 makes_range (SetEsn id esn) = false
 
 -- memory can run out at an edit: it makes a range, and would else be done
-pub record MayWantMemory (g : StreetGuide) (rows : RowMap) (edit : Edit) : Type 0 where
+pub record MayWantMemory (g : StreetGuide) (rows : NumberTable) (edit : Edit) : Type 0 where
   pub makes : makes_range edit ≡ true
   pub due : (edit_verdict g rows edit).code ≡ 0

@@ -1,18 +1,8 @@
--- House numbers with a difference added, and the ends of the parts of a split.
-use Rattle.std.specs.Prelude.{ℕ, ◌+◌, ◌-◌, ◌%◌, ◌==◌, Bool, true, false, nat_le, ℤ, pos, negsuc, if◌then◌else◌}
+-- Differences that keep the parity of house numbers, and the ends of the parts of a split.
+use Rattle.std.specs.Prelude.{ℕ, ◌+◌, ◌-◌, ◌%◌, ◌==◌, Bool, true, false, ℤ, pos, negsuc, if◌then◌else◌}
 use Rattle.ali_base.specs.StreetGuide.{has_parity}
 use Rattle.ali_base.specs.declared.parity.Parity.{Parity}
 use Rattle.ali_base.specs.declared.parity.Parity.TheVariants.{Odd, Even, Both}
-
--- the number with the difference added; 0 where that is below 0
-abbrev pub added : ℕ → ℤ → ℕ
-added n (pos d) = n + d
-added n (negsuc d) = n - (d + 1)
-
--- with the difference added, a number up to 999,999 is from 0 to 999,999
-abbrev pub stays_house : ℕ → ℤ → Bool
-stays_house n (pos d) = nat_le (n + d) 999_999
-stays_house n (negsuc d) = nat_le (d + 1) n
 
 -- the difference is odd
 abbrev pub is_odd : ℤ → Bool

@@ -1,5 +1,3 @@
-pub mod Rows
-pub mod RowCodes
 pub mod HouseArithmetic
 pub mod EditRules
 pub mod Edits

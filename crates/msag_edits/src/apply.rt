@@ -2,17 +2,17 @@
 ghost use Rattle.std.specs.Prelude.{◌≡◌, ◌≢◌, ◌<◌, IfOk, OnErr};
 ghost use Rattle.msag_edits.specs.Edits.{edit_verdict, edit_act, MayWantMemory};
 ghost use Rattle.msag_edits.specs.GuideSoundness.{AreSound};
-ghost use Rattle.msag_edits.specs.Rows.{AreChanged};
+ghost use Rattle.number_table.specs.HeldRows.{AreChanged};
 
 use crate::add::add;
 use crate::edit_verdict::EditVerdict;
 use crate::renumber::renumber;
 use crate::retire::retire;
-use crate::row_mover::RowMover;
 use crate::set_esn::set_esn;
 use crate::split::split;
 use ali_base::NoMemory;
 use msag_ranges::Guide;
+use number_table::RowMover;
 use office_entry::Edit;
 
 // Applies an edit.

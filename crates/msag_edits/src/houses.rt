@@ -1,23 +1,13 @@
-//! House numbers with a difference added, and the ends of the parts of a split.
+//! Ranges with a difference added, and the ends of the parts of a split.
 ghost use Rattle.std.specs.Prelude.{◌≡◌, ◌≤◌, ◌&&◌};
 ghost use Rattle.ali_base.specs.Steps.{when};
-ghost use Rattle.msag_edits.specs.HouseArithmetic.{added, stays_house, is_odd, is_one_parity, last_to, first_above};
+ghost use Rattle.number_table.specs.HouseArithmetic.{added, stays_house};
+ghost use Rattle.msag_edits.specs.HouseArithmetic.{is_odd, is_one_parity, last_to, first_above};
 ghost use Rattle.msag_edits.specs.EditRules.{shifted, has_empty_part};
 
 use ali_base::{House, Parity, Range};
 use msag_ranges::has_parity;
-
-/// The number with the difference added; None where that is below 0 or above 999,999.
-pub(crate) fn added(n: House, by: i32) -> Option<House>
-    ensures { result ≡ when (stays_house n by) (added n by) }
-{
-    let magnitude = by.unsigned_abs();
-    if by < 0 {
-        House::new(n.number().checked_sub(magnitude)?)
-    } else {
-        House::new(n.number().checked_add(magnitude)?)
-    }
-}
+use number_table::added;
 
 /// The range with the difference added to both ends; None where an end is then below 0 or above
 /// 999,999.

@@ -1,7 +1,8 @@
 //! Laws of the arithmetic of splits and differences, for whoever reads the definitions.
 ghost use Rattle.std.specs.Prelude.{◌≡◌, ℕ, ◌<◌, ◌≤◌, ◌↔◌, ◌⊎◌, ◌&&◌, not, nat_le, true, false};
 ghost use Rattle.ali_base.specs.StreetGuide.{HasSoundEnds, is_held};
-ghost use Rattle.msag_edits.specs.HouseArithmetic.{added, stays_house, is_odd, is_one_parity};
+ghost use Rattle.number_table.specs.HouseArithmetic.{added, stays_house};
+ghost use Rattle.msag_edits.specs.HouseArithmetic.{is_odd, is_one_parity};
 ghost use Rattle.msag_edits.specs.EditRules.{has_empty_part, lower_part, upper_part, shifted};
 
 use ali_base::Range;

@@ -1,13 +1,13 @@
 //! RENUMBER: adds a difference to the ends of a range and to the house numbers in it.
 ghost use Rattle.std.specs.Prelude.{◌≡◌, ◌≢◌};
 ghost use Rattle.msag_edits.specs.EditRules.{renumber_verdict, renumber_act};
-ghost use Rattle.msag_edits.specs.Rows.{AreChanged};
+ghost use Rattle.number_table.specs.HeldRows.{AreChanged};
 
 use crate::edit_verdict::EditVerdict;
 use crate::houses::{shifted, swaps_parity};
 use crate::live_range::live_range;
-use crate::row_mover::RowMover;
 use msag_ranges::Guide;
+use number_table::RowMover;
 
 /// Adds `by` to both ends of the range of this id, and to the house number of each row that it holds.
 pub(crate) fn renumber<R: RowMover>(

@@ -4,9 +4,9 @@ ghost use Rattle.msag_edits.specs.EditRules.{retire_verdict, retire_act};
 
 use crate::edit_verdict::EditVerdict;
 use crate::live_range::live_range;
-use crate::row_mover::RowMover;
 use crate::telephone::detail_of;
 use msag_ranges::Guide;
+use number_table::RowMover;
 
 /// Removes the range of this id, which no row uses.
 pub(crate) fn retire<R: RowMover>(guide: &mut Guide, rows: &R, id: u32) -> EditVerdict

@@ -1,13 +1,13 @@
 //! SETESN: sets the ESN of a range and of its rows.
 ghost use Rattle.std.specs.Prelude.{◌≡◌, ◌≢◌};
 ghost use Rattle.msag_edits.specs.EditRules.{set_esn_verdict, set_esn_act};
-ghost use Rattle.msag_edits.specs.Rows.{AreChanged};
+ghost use Rattle.number_table.specs.HeldRows.{AreChanged};
 
 use crate::edit_verdict::EditVerdict;
 use crate::live_range::live_range;
-use crate::row_mover::RowMover;
 use ali_base::Esn;
 use msag_ranges::Guide;
+use number_table::RowMover;
 
 /// Gives the range of this id, and each row that it holds, this ESN.
 pub(crate) fn set_esn<R: RowMover>(

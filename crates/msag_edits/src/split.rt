@@ -1,14 +1,14 @@
 //! SPLIT: the numbers of a range above a place become a new range.
 ghost use Rattle.std.specs.Prelude.{◌≡◌, ◌≢◌, ◌+◌, ◌<◌, IfOk, OnErr};
 ghost use Rattle.msag_edits.specs.EditRules.{split_verdict, split_act};
-ghost use Rattle.msag_edits.specs.Rows.{AreChanged};
+ghost use Rattle.number_table.specs.HeldRows.{AreChanged};
 
 use crate::edit_verdict::EditVerdict;
 use crate::houses::{first_above, has_empty_part, last_to};
 use crate::live_range::live_range;
-use crate::row_mover::RowMover;
 use ali_base::{Esn, House, NoMemory, Range};
 use msag_ranges::{Guide, GuideFault};
+use number_table::RowMover;
 
 /// Makes the numbers of the range of this id above `at` a new range with this ESN, which the rows of
 /// that part get.

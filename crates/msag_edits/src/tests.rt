@@ -1,15 +1,17 @@
 ghost use Rattle.std.specs.Prelude.{◌+◌, ◌≤◌, length};
 
 use super::*;
-use ali_base::Tn;
+use ali_base::{Company, Tn};
 use ali_record::{Field, Record, read_record};
 use msag_ranges::Guide;
+use number_life::Row;
+use number_table::Rows;
 use office_entry::Edit;
 use std::test::Fail;
 
 // Applies the edit of a text, and answers its code and detail; None where it is no edit, or memory
 // or ids ran out.
-fn apply(guide: &mut Guide, rows: &mut RowTable, text: &[u8]) -> Option<(u16, u64)> {
+fn apply(guide: &mut Guide, rows: &mut Rows, text: &[u8]) -> Option<(u16, u64)> {
     let edit = Edit::read_text(text)?;
     if guide.next_id() == u32::MAX {
         return None;
@@ -47,28 +49,32 @@ fn record(tn: &[u8], house: &[u8], name: &[u8], esn: &[u8]) -> Option<Record>
     put(&mut bytes, 251, b"010224ABC01");
     put(&mut bytes, 261, b"ABC01");
     put(&mut bytes, 512, b"*");
-    read_record(&bytes).ok()
+    read_record(&bytes, Company::read(b"ABC01")?).ok()
 }
 
-// Puts a row of a street into the table; whether it could.
-fn insert(rows: &mut RowTable, tn: &[u8], house: &[u8], name: &[u8], esn: &[u8]) -> Option<bool>
+// Puts a locked row of a street into the table; None where it is no record, or there is no room.
+fn insert(rows: &mut Rows, tn: &[u8], house: &[u8], name: &[u8], esn: &[u8]) -> Option<()>
     requires tn { length tn.now ≤ 10 }
     requires house { length house.now ≤ 10 }
     requires name { length name.now ≤ 60 }
     requires esn { length esn.now ≤ 5 }
 {
     let rec = record(tn, house, name, esn)?;
-    rows.insert(rec.tn(), TableRow::new(rec, None)).ok()
+    let tn = rec.tn();
+    let unlocked = None;
+    if rows.len() == u32::MAX {
+        return None;
+    }
+    rows.insert(tn, Row { rec, unlocked }).ok()
 }
 
 // Whether the number has a row with these columns of house number and ESN.
-fn shows(rows: &RowTable, tn: &[u8], house: &[u8], esn: &[u8]) -> bool {
+fn shows(rows: &Rows, tn: &[u8], house: &[u8], esn: &[u8]) -> bool {
     let Some(tn) = Tn::read(tn) else {
         return false;
     };
     match rows.get(tn) {
-        Some(row) => row.rec().field(Field::HouseNumber) == house
-            && row.rec().field(Field::Esn) == esn,
+        Some(row) => row.rec.field(Field::HouseNumber) == house && row.rec.field(Field::Esn) == esn,
         None => false,
     }
 }
@@ -83,16 +89,16 @@ fn range(guide: &Guide, id: u32) -> Option<(u32, u32, u32)> {
 #[test]
 fn splits_a_used_range(rt: HostRuntime) -> Result<(), Fail> {
     let mut guide = Guide::new(rt.alloc(), 10)?;
-    let mut rows = RowTable::new(rt.alloc());
+    let mut rows = Rows::new(rt.alloc());
     let add = b"ADD DENVER|CO||MAIN|ST||100|198|E|101";
     assert_eq!(rt; apply(&mut guide, &mut rows, add), Some((0, 1)));
     assert_eq!(rt;
         insert(&mut rows, b"3035550100", b"100", b"MAIN", b"00101"),
-        Some(true)
+        Some(())
     );
     assert_eq!(rt;
         insert(&mut rows, b"3035550150", b"150", b"MAIN", b"00101"),
-        Some(true)
+        Some(())
     );
     assert_eq!(rt;
         apply(&mut guide, &mut rows, b"SPLIT 1 149 102"),
@@ -119,14 +125,14 @@ fn splits_a_used_range(rt: HostRuntime) -> Result<(), Fail> {
 #[test]
 fn renumbers_a_used_range(rt: HostRuntime) -> Result<(), Fail> {
     let mut guide = Guide::new(rt.alloc(), 10)?;
-    let mut rows = RowTable::new(rt.alloc());
+    let mut rows = Rows::new(rt.alloc());
     let add = b"ADD DENVER|CO||MAIN|ST||100|198|E|101";
     assert_eq!(rt; apply(&mut guide, &mut rows, add), Some((0, 1)));
     let other = b"ADD DENVER|CO||MAIN|ST||200|298|E|101";
     assert_eq!(rt; apply(&mut guide, &mut rows, other), Some((0, 2)));
     assert_eq!(rt;
         insert(&mut rows, b"3035550200", b"200", b"MAIN", b"00101"),
-        Some(true)
+        Some(())
     );
     let cases = [
         (b"RENUMBER 2 -100".as_slice(), (502, 1)),
@@ -152,7 +158,7 @@ fn renumbers_a_used_range(rt: HostRuntime) -> Result<(), Fail> {
 #[test]
 fn renumbers_by_nothing(rt: HostRuntime) -> Result<(), Fail> {
     let mut guide = Guide::new(rt.alloc(), 10)?;
-    let mut rows = RowTable::new(rt.alloc());
+    let mut rows = Rows::new(rt.alloc());
     let add = b"ADD DENVER|CO||ZERO|ST||0|9|B|8";
     assert_eq!(rt; apply(&mut guide, &mut rows, add), Some((0, 1)));
     assert_eq!(rt;
@@ -161,15 +167,15 @@ fn renumbers_by_nothing(rt: HostRuntime) -> Result<(), Fail> {
     );
     assert_eq!(rt;
         insert(&mut rows, b"3035550001", b"", b"ZERO", b"00008"),
-        Some(true)
+        Some(())
     );
     assert_eq!(rt;
         insert(&mut rows, b"3035550002", b"  007", b"Zero", b"00008"),
-        Some(true)
+        Some(())
     );
     assert_eq!(rt;
         insert(&mut rows, b"3035550003", b"000", b"NULL", b"00008"),
-        Some(true)
+        Some(())
     );
     assert_eq!(rt;
         apply(&mut guide, &mut rows, b"RENUMBER 1 +0"),
@@ -185,7 +191,7 @@ fn renumbers_by_nothing(rt: HostRuntime) -> Result<(), Fail> {
 #[test]
 fn tests_codes_in_order(rt: HostRuntime) -> Result<(), Fail> {
     let mut guide = Guide::new(rt.alloc(), 3)?;
-    let mut rows = RowTable::new(rt.alloc());
+    let mut rows = Rows::new(rt.alloc());
     let cases = [
         (b"RETIRE 1".as_slice(), (501, 0)),
         (b"SETESN 1 0", (501, 0)),
@@ -232,22 +238,22 @@ fn tests_codes_in_order(rt: HostRuntime) -> Result<(), Fail> {
 #[test]
 fn sets_the_number_of_a_range(rt: HostRuntime) -> Result<(), Fail> {
     let mut guide = Guide::new(rt.alloc(), 3)?;
-    let mut rows = RowTable::new(rt.alloc());
+    let mut rows = Rows::new(rt.alloc());
     let add = b"ADD DENVER|CO||MAIN|ST||100|198|E|101";
     assert_eq!(rt; apply(&mut guide, &mut rows, add), Some((0, 1)));
     let add = b"ADD DENVER|CO||MAIN|ST||101|199|O|101";
     assert_eq!(rt; apply(&mut guide, &mut rows, add), Some((0, 2)));
     assert_eq!(rt;
         insert(&mut rows, b"3035550100", b"100", b"MAIN", b"00101"),
-        Some(true)
+        Some(())
     );
     assert_eq!(rt;
         insert(&mut rows, b"3035550101", b"101", b"MAIN", b"00101"),
-        Some(true)
+        Some(())
     );
     assert_eq!(rt;
         insert(&mut rows, b"0000000007", b"198", b"MAIN", b"00101"),
-        Some(true)
+        Some(())
     );
     assert_eq!(rt;
         apply(&mut guide, &mut rows, b"SETESN 1 99999"),

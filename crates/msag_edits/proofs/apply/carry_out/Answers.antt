@@ -1,7 +1,7 @@
 use Rattle.std.proofs.Common.{◌≡◌, ℕ, IfOk, subst, sym}
 use Rattle.office_entry.specs.declared.edit.Edit.{Edit}
 use Rattle.msag_edits.specs.declared.edit_verdict.EditVerdict.{EditVerdict}
-use Rattle.msag_edits.specs.Rows.{AreChanged}
+use Rattle.number_table.specs.HeldRows.{AreChanged}
 use Rattle.msag_edits.specs.EditRules.{split_act}
 use Rattle.msag_edits.specs.Edits.{edit_act}
 use Rattle.msag_edits.proofs.apply.carry_out.Goals as goal

@@ -3,7 +3,8 @@ use Rattle.std.proofs.lemmas.Int.{to_z-of_z}
 use Rattle.ali_base.specs.Steps.{when}
 use Rattle.ali_base.specs.StreetGuide.{range_of, least_overlap, moved, MayStand}
 use Rattle.ali_base.specs.declared.range.Range.{Range}
-use Rattle.msag_edits.specs.HouseArithmetic.{added, stays_house, is_odd, is_one_parity}
+use Rattle.number_table.specs.HouseArithmetic.{added, stays_house}
+use Rattle.msag_edits.specs.HouseArithmetic.{is_odd, is_one_parity}
 use Rattle.msag_edits.specs.EditRules.{shifted}
 use Rattle.msag_ranges.proofs.Overlapping.{both}
 use Rattle.msag_edits.proofs.Ranges.{may_stand-shifted, set-asks, when-some}

@@ -1,0 +1,3 @@
+pub mod Lookups
+pub mod HeldLists
+pub mod HeldAddresses

@@ -1,0 +1,3 @@
+pub mod NumberTable
+pub mod HouseArithmetic
+pub mod HeldRows

@@ -1,0 +1,30 @@
+-- The table of numbers: a finite map from telephone numbers to rows.
+use Rattle.std.specs.Prelude.{ℕ, List, Option, refl}
+use Rattle.std.specs.Ordering.{nat_cmp}
+use Rattle.std.specs.Cmp.Lexicographic.{slice_cmp}
+use Rattle.std.specs.declared.cmp.Ordering.{Ordering}
+use Rattle.std.specs.Coded.{Coded, code_by, coded_list, coded_ℕ, coded×, coded_option}
+use Rattle.std.specs.FinMap.{FinMap, code, empty}
+use Rattle.ali_base.specs.CivilDay.{CivilDay}
+use Rattle.number_life.specs.declared.row.Row.{Row}
+
+-- telephone numbers in the order of their digits
+abbrev pub tn_cmp : List ℕ → List ℕ → Ordering
+tn_cmp = slice_cmp nat_cmp
+
+abbrev pub NumberTable : Type 0
+NumberTable = FinMap tn_cmp Row
+
+abbrev pub no_numbers : NumberTable
+no_numbers = empty
+
+-- a day is stored as its three numbers
+abbrev pub coded_day : Coded CivilDay
+coded_day = code_by (ℕ × (ℕ × ℕ)) (coded× coded_ℕ (coded× coded_ℕ coded_ℕ)) (λ d. (d.year, (d.month, d.day))) (λ p. record { year = p.0; month = p.1.0; day = p.1.1 }) (λ _. refl)
+
+-- a row is stored as its record and its day of unlocking
+abbrev pub coded_row : Coded Row
+coded_row = code_by (List ℕ × Option CivilDay) (coded× (coded_list coded_ℕ) (coded_option coded_day)) (λ row. (row.rec, row.unlocked)) (λ p. record { rec = p.0; unlocked = p.1 }) (λ _. refl)
+
+abbrev pub coded_table : Coded NumberTable
+coded_table = code (coded_list coded_ℕ) coded_row

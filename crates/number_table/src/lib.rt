@@ -1,0 +1,11 @@
+//! The table of numbers, and changes of the rows whose address a range of the street guide holds.
+#![tactic(auto)]
+
+mod houses;
+mod row_changes;
+mod row_mover;
+mod rows;
+
+pub use houses::added;
+pub use row_mover::RowMover;
+pub use rows::Rows;

@@ -1,0 +1,145 @@
+//! The table of numbers.
+ghost use Rattle.std.specs.Prelude.{◌≡◌, ◌<◌, ◌≤◌, ◌⊎◌, Some, IsSome, OnOk, OnErr, length, filter, find};
+ghost use Rattle.std.specs.Option.{option_copied, option_map, option_map_or};
+ghost use Rattle.std.specs.BTreeMap.{IsOrdered, values};
+ghost use Rattle.std.specs.Map.Iter.{deref_pair};
+ghost use Rattle.std.specs.FinMap as map;
+ghost use Rattle.number_table.specs.NumberTable.{tn_cmp, no_numbers};
+ghost use Rattle.number_table.specs.HeldRows.{holds_row, count_held};
+
+use crate::row_changes::{is_held, set_row_esn, shift_row};
+use crate::row_mover::RowMover;
+use ali_base::{Day, Esn, NoMemory, Range, Tn};
+use number_life::Row;
+use std::alloc::Global;
+use std::collections::BTreeMap;
+use std::marker::Model;
+
+/// A map from telephone numbers to rows: at most 4,294,967,295 of them.
+#[derive(Drop)]
+pub struct Rows {
+    by_tn: BTreeMap<Tn, Row>,
+}
+
+impl Model for Rows {
+    ghost use Rattle.std.specs.Prelude.{◌<◌, ◌^◌, length};
+    ghost use Rattle.std.specs.FinMap as map;
+    ghost use Rattle.number_table.specs.NumberTable.{NumberTable, coded_table};
+
+    ghost Value = { NumberTable };
+
+    ghost coded = { coded_table };
+
+    ghost view = { λ r. map.from_entries r.by_tn.entries };
+
+    ghost invariant = { λ r. length r.by_tn.entries < 2 ^ 32 };
+}
+
+// How many rows the range holds.
+fn count_in(by_tn: &BTreeMap<Tn, Row>, r: &Range) -> usize
+    ensures value { result ≡ length (filter (holds_row r.now) (values by_tn.now)) }
+    ensures limit { result ≤ length by_tn.now.entries }
+    ensures ordered { IsOrdered tn_cmp by_tn.now }
+{
+    by_tn.values().filter(|row| is_held(row, r)).count()
+}
+
+// The first entry whose row the range holds.
+fn first_in<'a>(by_tn: &'a BTreeMap<Tn, Row>, r: &Range) -> Option<(&'a Tn, &'a Row)>
+    ensures value { option_map deref_pair result ≡ find (λ e. holds_row r.now e.1) by_tn.now.entries }
+    ensures ordered { IsOrdered tn_cmp by_tn.now }
+{
+    by_tn.iter().find(|(_, row)| is_held(row, r))
+}
+
+impl Rows {
+    /// A table with no rows.
+    pub fn new(alloc: Global) -> Self
+        ensures { result ≡ no_numbers }
+    {
+        Rows {
+            by_tn: BTreeMap::new(alloc),
+        }
+    }
+
+    /// How many numbers have a row, at most 4,294,967,295.
+    pub fn len(&self) -> u32
+        ensures { result ≡ map.len self.now }
+    {
+        self.by_tn.len() as u32
+    }
+
+    /// The row of a number.
+    pub fn get(&self, tn: Tn) -> Option<&Row>
+        ensures { option_copied result ≡ map.get self.now tn }
+    {
+        self.by_tn.get(&tn)
+    }
+
+    /// Makes this the row of the number. Asks that the number has a row, or that there is room for one
+    /// more.
+    ///
+    /// # Errors
+    ///
+    /// `NoMemory`, and nothing has changed.
+    pub fn insert(&mut self, tn: Tn, row: Row) -> Result<(), NoMemory>
+        requires { IsSome (map.get self.old tn) ⊎ (map.len self.old < 4_294_967_295) }
+        ensures ok { OnOk result (self.new ≡ map.insert self.old tn row) }
+        ensures err { OnErr result (self.new ≡ self.old) }
+    {
+        self.by_tn.insert(tn, row)?;
+        Ok(())
+    }
+
+    /// The number has no row from now on.
+    pub fn remove(&mut self, tn: Tn)
+        ensures { self.new ≡ map.remove self.old tn }
+    {
+        self.by_tn.remove(&tn);
+    }
+
+    /// Unlocks the row of the number, if there is one, on this day.
+    pub fn unlock(&mut self, tn: Tn, day: Day)
+        ensures { self.new ≡ option_map_or (λ row. map.insert self.old tn (record row { unlocked = Some day })) (map.get self.old tn) self.old }
+    {
+        if let Some(row) = self.by_tn.get_mut(&tn) {
+            row.unlocked = Some(day);
+        }
+    }
+
+    // How many rows the range holds.
+    fn count_held(&self, r: &Range) -> u32
+        ensures { result ≡ count_held self.now r.now }
+    {
+        count_in(&self.by_tn, r) as u32
+    }
+}
+
+impl RowMover for Rows {
+    ghost rows = { λ t. t };
+
+    fn least_held(&self, r: &Range) -> Option<Tn> {
+        match first_in(&self.by_tn, r) {
+            Some((tn, _)) => Some(*tn),
+            None => None,
+        }
+    }
+
+    fn shift(&mut self, r: &Range, by: i32) -> u32 {
+        let count = self.count_held(r);
+        self.by_tn.retain(|_, row| {
+            shift_row(row, r, by);
+            true
+        });
+        count
+    }
+
+    fn set_esn(&mut self, r: &Range, esn: Esn) -> u32 {
+        let count = self.count_held(r);
+        self.by_tn.retain(|_, row| {
+            set_row_esn(row, r, esn);
+            true
+        });
+        count
+    }
+}
