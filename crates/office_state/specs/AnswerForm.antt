@@ -1,24 +1,14 @@
 -- The form that answers a request: lines of words.
 use Rattle.std.specs.Prelude.{ℕ, List, [], ◌∷◌, ◌++◌, Option, Some, None, codes, if◌then◌else◌, unwrap_or}
 use Rattle.std.specs.Fmt.{decimal}
-use Rattle.ali_base.specs.Columns.{trimmed, is_empty, is_blank}
+use Rattle.ali_base.specs.CivilDay.{CivilDay}
+use Rattle.ali_base.specs.Columns.{trimmed, is_blank}
 use Rattle.ali_base.specs.HouseNumber.{house_of}
 use Rattle.ali_record.specs.Layout.{field_of}
 use Rattle.ali_record.specs.declared.field.Field.{Field}
 use Rattle.ali_record.specs.declared.field.Field.TheVariants.{TelephoneNumber, HouseNumber, HouseSuffix, PrefixDirectional, StreetName, StreetSuffix, PostDirectional, Community, State, Location, CustomerName, ClassOfService, TypeOfService, Esn, Company}
-use Rattle.office_state.specs.declared.row.Row.{Row}
-
--- a line with one word more, after a space; an empty word is left out
-abbrev pub with_word : List ℕ → List ℕ → List ℕ
-with_word line word = if is_empty word then line else (if is_empty line then word else line ++ 32 ∷ word)
-
-abbrev pub with_words : List ℕ → List (List ℕ) → List ℕ
-with_words line [] = line
-with_words line (word ∷ words) = with_words (with_word line word) words
-
--- the words, and the end of the line
-abbrev pub line_of : List (List ℕ) → List ℕ
-line_of words = with_words [] words ++ 10 ∷ []
+use Rattle.number_life.specs.declared.row.Row.{Row}
+use Rattle.text_line.specs.WordLines.{line_of}
 
 -- a field as it is printed: without the spaces at its end
 abbrev pub printed : List ℕ → Field → List ℕ
@@ -46,12 +36,17 @@ city_line b = line_of (codes "CITY" ∷ printed b Community ∷ printed b State 
 abbrev pub location_line : List ℕ → List ℕ
 location_line b = line_of (codes "LOC" ∷ printed b Location ∷ [])
 
-abbrev pub company_line : List ℕ → List ℕ
-company_line b = line_of (codes "ESN" ∷ printed b Esn ∷ codes "CO" ∷ printed b Company ∷ codes "LOCKED" ∷ [])
+-- a row is locked until it has a day of unlocking
+abbrev pub lock_word : Option CivilDay → List ℕ
+lock_word None = codes "LOCKED"
+lock_word (Some day) = codes "UNLOCKED"
+
+abbrev pub company_line : Row → List ℕ
+company_line row = line_of (codes "ESN" ∷ printed row.rec Esn ∷ codes "CO" ∷ printed row.rec Company ∷ lock_word row.unlocked ∷ [])
 
 -- the form of a row: six lines
-unfoldable pub row_form : List ℕ → List ℕ
-row_form b = number_line b ++ name_line b ++ address_line b ++ city_line b ++ location_line b ++ company_line b
+unfoldable pub row_form : Row → List ℕ
+row_form row = number_line row.rec ++ name_line row.rec ++ address_line row.rec ++ city_line row.rec ++ location_line row.rec ++ company_line row
 
 -- the form of a number that has no row
 abbrev pub missing_line : List ℕ → List ℕ
@@ -60,4 +55,4 @@ missing_line tn = line_of (codes "TN" ∷ tn ∷ codes "NO" ∷ codes "RECORD" �
 -- the form of a number, where it has this row or none
 unfoldable pub form : Option Row → List ℕ → List ℕ
 form None tn = missing_line tn
-form (Some row) tn = row_form row.rec
+form (Some row) tn = row_form row

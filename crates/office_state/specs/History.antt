@@ -1,23 +1,34 @@
 -- The booked history: the entries that the office accepted into its order, with the refused ones among them.
-use Rattle.std.specs.Prelude.{◌≡◌, ℕ, List, length, fold, refl}
-use Rattle.std.specs.Coded.{Coded, code_by, coded×, coded_ℕ}
-use Rattle.office_state.specs.NumberTable.{NumberTable, no_numbers, coded_table}
+use Rattle.std.specs.Prelude.{◌≡◌, List, [], ◌∷◌, length, fold}
+use Rattle.office_entry.specs.declared.entry.Entry.{Entry}
+use Rattle.office_entry.specs.declared.entry.Entry.TheVariants.{Open, Line}
+use Rattle.office_state.specs.declared.limits.Limits.{Limits}
+use Rattle.office_state.specs.OfficeState.{State, OfficeState, empty_state}
+use Rattle.office_state.specs.Due.{IsDue}
 use Rattle.office_state.specs.Verdict.{after}
 
--- the table after all of a history
-abbrev pub state : List (List ℕ) → NumberTable
-state history = fold after no_numbers history
+-- the state after all of a history
+abbrev pub state : Limits → List Entry → State
+state limits history = fold after (empty_state limits) history
 
--- what an office keeps: the table, and how many entries were booked
-pub record OfficeState : Type 0 where
-  pub table : NumberTable
-  pub entries : ℕ
+-- each of these entries, one after the other, may be booked next
+abbrev pub AreDue : State → List Entry → Type 0
+AreDue s [] = Unit {0}
+AreDue s (e ∷ entries) = IsDue s e × AreDue (after s e) entries
 
--- it is stored as the pair of its fields
-abbrev pub coded_state : Coded OfficeState
-coded_state = code_by (NumberTable × ℕ) (coded× coded_table coded_ℕ) (λ o. (o.table, o.entries)) (λ p. record { table = p.0; entries = p.1 }) (λ _. refl)
+-- a history in which each entry could be booked in the state of those before it
+abbrev pub IsLegal : Limits → List Entry → Type 0
+IsLegal limits history = AreDue (empty_state limits) history
 
--- the office is the one after this history
-pub record Represents (office : OfficeState) (history : List (List ℕ)) : Type 0 where
-  pub table : office.table ≡ state history
+-- two openings of one cycle, or one line twice
+abbrev pub Repeats : Entry → Entry → Type 0
+Repeats (Open c n count day digest) (Open d m count' day' digest') = (c ≡ d) × (n ≡ m)
+Repeats (Line c n line bytes) (Line d m line' bytes') = (c ≡ d) × (n ≡ m) × (line ≡ line')
+Repeats (Open c n count day digest) (Line d m line bytes) = ⊥
+Repeats (Line c n line bytes) (Open d m count day digest) = ⊥
+
+-- the office is the one after this history, which is legal
+pub record Represents (limits : Limits) (office : OfficeState) (history : List Entry) : Type 0 where
+  pub legal : IsLegal limits history
+  pub same : office.state ≡ state limits history
   pub entries : office.entries ≡ length history

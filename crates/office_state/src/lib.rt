@@ -1,9 +1,18 @@
-//! The state of the office: the table of numbers, and entries that change it.
+//! The state of the office: the table of numbers and the kept cycles, and the entries of the booked
+//! history that change it.
 #![tactic(auto)]
 
+mod due_fault;
+mod laws;
+mod limits;
 mod office;
-mod row;
-mod rows;
+mod verdict;
 
-pub use office::{ApplyFault, Office, Verdict};
-pub use row::Row;
+pub use due_fault::DueFault;
+pub use laws::{bookings_are_once, finished_cycles_keep_their_codes};
+pub use limits::Limits;
+pub use office::{ApplyFault, Office};
+pub use verdict::Verdict;
+
+#[cfg(test)]
+mod tests;

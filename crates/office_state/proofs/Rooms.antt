@@ -1,0 +1,71 @@
+-- Room for a record that is stored.
+use Rattle.std.proofs.Common.{◌≡◌, ◌⊎◌, inl, inr, ℕ, ◌<◌, ◌^◌, ◌==◌, ◌&&◌, nat_le, Bool, true, false, cond, List, refl, ap, sym, ◌∙◌, arith, Option, Some, None, IsSome, Ok, Err}
+use Rattle.std.specs.Option.{option_map_or}
+use Rattle.std.specs.FinMap.{get, len}
+use Rattle.std.proofs.lemmas.Bool.Decides.{nat_tests}
+use Rattle.ali_base.specs.CivilDay.{CivilDay, day_of}
+use Rattle.ali_record.specs.Layout.{field_of, byte_of}
+use Rattle.ali_record.specs.declared.field.Field.TheVariants as field
+use Rattle.number_life.specs.declared.act.LifeAct.{LifeAct}
+use Rattle.number_life.specs.declared.act.LifeAct.TheVariants.{Store, Remove, Unlock}
+use Rattle.number_life.specs.declared.function.Function.{Function}
+use Rattle.number_life.specs.declared.function.Function.TheVariants as function
+use Rattle.number_life.specs.declared.standing.Standing.TheVariants.{Absent}
+use Rattle.number_life.specs.declared.row.Row.{Row}
+use Rattle.number_life.specs.NumberLife.{life, life_of, function_of}
+use Rattle.number_table.specs.NumberTable.{NumberTable}
+use Rattle.ali_record.specs.RecordReading.{reading_code}
+use Rattle.office_state.specs.OfficeState.{State}
+use Rattle.office_state.specs.Rooms.{HasRoom}
+use Rattle.office_state.specs.Verdict.{record_act, within_limit}
+
+-- a number without a row is stored by an insert alone
+only_inserts : (f : Function) (day : CivilDay) → life f Absent day ≡ Ok Store → f ≡ function.Insert
+only_inserts function.Insert day h = refl
+only_inserts function.Change day h = absurd (cc h)
+only_inserts function.Delete day h = absurd (cc h)
+only_inserts function.Unlock day h = absurd (cc h)
+only_inserts function.Migrate day h = absurd (cc h)
+
+insert_first : (a b c d : Bool) → cond a function.Insert (cond b function.Change (cond c function.Delete (cond d function.Unlock function.Migrate))) ≡ function.Insert → a ≡ true
+insert_first true b c d h = refl
+insert_first false true c d h = absurd (cc h)
+insert_first false false true d h = absurd (cc h)
+insert_first false false false true h = absurd (cc h)
+insert_first false false false false h = absurd (cc h)
+
+stored_new : (bytes : List ℕ) → life_of None bytes ≡ Ok Store → (byte_of bytes field.Function == 73) ≡ true
+unfolding life_of
+stored_new bytes h = by_day (day_of (field_of bytes field.ExtractDate)) h
+  where
+    byte : ℕ
+    byte = byte_of bytes field.Function
+
+    by_day : (day : Option CivilDay) → option_map_or (λ day. life (function_of byte) Absent day) day (Err 107) ≡ Ok Store → (byte == 73) ≡ true
+    by_day None h = absurd (cc h)
+    by_day (Some day) h = insert_first (byte == 73) (byte == 67) (byte == 68) (byte == 85) (only_inserts (function_of byte) day h)
+
+in_room : (table : NumberTable) (found : Option Row) (bytes : List ℕ) (most : ℕ) → life_of found bytes ≡ Ok Store → ((byte_of bytes field.Function == 73) && nat_le most (len table)) ≡ false → most < 2 ^ 32 → IsSome found ⊎ (len table < 4_294_967_295)
+in_room table (Some row) bytes most h full small = inl refl
+in_room table None bytes most h full small =
+    let below : nat_le most (len table) ≡ false = sym (ap (λ b. b && nat_le most (len table)) (stored_new bytes h)) ∙ full in
+    inr (grind (arith, nat_tests, below, small))
+
+-- where the limit of numbers is not reached, a record that is stored has room
+pub has_room : (table : NumberTable) (bytes : List ℕ) (most : ℕ) (act : LifeAct) → life_of (get table (field_of bytes field.TelephoneNumber)) bytes ≡ Ok act
+    → ((byte_of bytes field.Function == 73) && nat_le most (len table)) ≡ false → most < 2 ^ 32 → HasRoom table bytes act
+has_room table bytes most Store h full small = in_room table (get table (field_of bytes field.TelephoneNumber)) bytes most h full small
+has_room table bytes most Remove h full small = tt
+has_room table bytes most (Unlock day) h full small = tt
+
+-- what is done with a record that was read and judged, where the limit is not reached
+pub acts : (s : State) (company bytes : List ℕ) (act : LifeAct) → reading_code company bytes ≡ 0 → life_of (get s.table (field_of bytes field.TelephoneNumber)) bytes ≡ Ok act
+    → ((byte_of bytes field.Function == 73) && nat_le s.most_numbers (len s.table)) ≡ false → s.most_numbers < 2 ^ 32 → (record_act s company bytes ≡ Ok act) × HasRoom s.table bytes act
+unfolding record_act
+acts s company bytes act read judged full small =
+    let taken : (reading_code company bytes == 0) ≡ true = ap (λ n. n == 0) read in (
+      ap (λ b. cond b (within_limit s (byte_of bytes field.Function) (life_of (get s.table (field_of bytes field.TelephoneNumber)) bytes)) (Err (reading_code company bytes))) taken
+          ∙ ap (within_limit s (byte_of bytes field.Function)) judged
+          ∙ ap (λ b. cond b (Err 509) (Ok act)) full,
+      has_room s.table bytes s.most_numbers act judged full small,
+    )
