@@ -1,0 +1,5 @@
+pub mod FileJobs
+pub mod Jobs
+pub mod ReplyLines
+pub mod JobReplies
+pub mod SubmitFaults

@@ -1,0 +1,269 @@
+//! The entries of a job, one after the other, and what is told of it.
+ghost use Rattle.std.specs.Prelude.{◌≡◌, ◌==◌, ℕ, ◌≤◌, not, [], ◌∷◌, ◌++◌, length, count_by, IfOk, Ok, OnOk, OnErr};
+ghost use Rattle.std.specs.Io.KnownBytes.{Appends};
+ghost use Rattle.ali_base.specs.Faults.{Rose};
+ghost use Rattle.ali_base.specs.WholePuts.{AppendsPart};
+ghost use Rattle.error_files.specs.ErrorFile.{error_file};
+ghost use Rattle.error_files.specs.TextPuts.{PutsText};
+ghost use Rattle.sequence_once.specs.KeptCycles.{IsSound, count_of};
+ghost use Rattle.sequence_once.specs.CycleStanding.{standing_of};
+ghost use Rattle.sequence_once.specs.declared.standing.Standing.TheVariants.{Complete};
+ghost use Rattle.office_state.specs.Due.{IsDue};
+ghost use Rattle.batch_desk.specs.FileJobs.{file_standing, opening, line_entry, is_other_count, with_count, next_by};
+ghost use Rattle.batch_desk.specs.Jobs.{job_standing, next_of};
+ghost use Rattle.batch_desk.specs.ReplyLines.{errors_line};
+ghost use Rattle.batch_desk.specs.JobReplies.{read_of, done_of, kept_codes, next_line, job_reply};
+
+use crate::job::{FileJob, Job};
+use crate::reply_line::{FileDone, FileRead, complete_line, errors_line};
+use ali_base::{Sink, SinkFault, put_all};
+use batch_frame::FileView;
+use error_files::{ErrorsEnd, errors_len, write_errors};
+use office_entry::Entry;
+use office_state::{DueFault, Office};
+use sequence_once::{CycleFault, Standing};
+
+/// The entry of a job that may be booked next.
+///
+/// # Errors
+///
+/// `Complete` where all entries are booked; otherwise the fault of the job's standing. `NotNext`
+/// never comes.
+pub fn next_entry(office: &Office, job: &Job) -> Result<Entry, DueFault>
+    ensures exact { result ≡ next_of office.now.state job.now }
+    ensures due { IfOk result (λ e. IsDue office.now.state e) }
+    ensures sound { IsSound office.now.state.cycles }
+{
+    match job {
+        Job::File(file) => next_of_file(office, file),
+    }
+}
+
+/// What is told of a file that was read.
+pub fn file_read(office: &Office, job: &Job) -> FileRead
+    ensures { result ≡ read_of office.now.state job.now }
+{
+    let Job::File(job) = job;
+    let file = job.file();
+    FileRead {
+        company: file.company(),
+        cycle: file.cycle(),
+        count: file.count(),
+        next: next_line(file.count(), file_standing(office, job)),
+    }
+}
+
+/// What is told of a file that is complete.
+pub fn file_done(office: &Office, job: &Job) -> FileDone
+    requires { job_standing office.now.state job.now ≡ Ok Complete }
+    ensures { result ≡ done_of office.now.state job.now }
+{
+    match job {
+        Job::File(job) => done_of_file(office, job),
+    }
+}
+
+/// Puts the reply to a complete job: its line, and the error file with its length before it.
+pub fn desk_reply<K: Sink>(office: &Office, job: &Job, sink: &mut K) -> ErrorsEnd
+    requires { job_standing office.now.state job.now ≡ Ok Complete }
+    ensures bytes { PutsText (K.contents sink.old) (K.contents sink.new) (job_reply office.now.state job.now) result }
+    ensures later { K.faults sink.old ≤ K.faults sink.new }
+    ensures cause { result ≡ ErrorsEnd.SinkFault → Rose (K.faults sink.old) (K.faults sink.new) }
+{
+    match put_reply(office, job, sink) {
+        Ok(()) => ErrorsEnd::Done,
+        Err(SinkFault) => ErrorsEnd::SinkFault,
+    }
+}
+
+// What a job's file is to the office.
+#[tactic(auto, unfolding(crate::specs::FileJobs::file_standing))]
+fn file_standing(office: &Office, job: &FileJob) -> Result<Standing, CycleFault>
+    ensures exact { result ≡ file_standing office.now.state job.now }
+    ensures sound { IsSound office.now.state.cycles }
+{
+    view_standing(office, &job.file(), job.digest())
+}
+
+// What a file is to the office, by its parts and its digest.
+pub(crate) fn view_standing(
+    office: &Office,
+    file: &FileView<'_>,
+    digest: &[u8; 32],
+) -> Result<Standing, CycleFault>
+    ensures exact { result ≡ with_count (is_other_count (count_of file.now.company file.now.cycle office.now.state.cycles.kept) file.now.count) digest.now (standing_of office.now.state.cycles file.now.company file.now.cycle digest.now) }
+    ensures sound { IsSound office.now.state.cycles }
+{
+    let standing = office.standing(file.company(), file.cycle(), digest);
+    let other = is_other_count(office.count(file.company(), file.cycle()), file.count());
+    with_count(other, digest, standing)
+}
+
+// Whether a cycle is kept, for a file of another count.
+fn is_other_count(kept: Option<u32>, count: u32) -> bool
+    ensures { result ≡ is_other_count kept count }
+{
+    match kept {
+        Some(kept) => kept != count,
+        None => false,
+    }
+}
+
+// A file whose cycle is kept with its digest differs all the same where the kept count is another.
+fn with_count(
+    other: bool,
+    digest: &[u8; 32],
+    standing: Result<Standing, CycleFault>,
+) -> Result<Standing, CycleFault>
+    ensures { result ≡ with_count other digest.now standing }
+{
+    match standing {
+        Ok(Standing::Resume(_)) | Ok(Standing::Complete) if other => Err(CycleFault::Differs {
+            kept: *digest,
+            sent: *digest,
+        }),
+        standing => standing,
+    }
+}
+
+// The entry of a file that may be booked next.
+fn next_of_file(office: &Office, job: &FileJob) -> Result<Entry, DueFault>
+    ensures exact { result ≡ next_by job.now (file_standing office.now.state job.now) }
+    ensures due { IfOk result (λ e. IsDue office.now.state e) }
+    ensures sound { IsSound office.now.state.cycles }
+{
+    match file_standing(office, job) {
+        Ok(Standing::New) => Ok(opening(job)),
+        Ok(Standing::Resume(line)) => Ok(line_entry(&job.file(), line)),
+        Ok(Standing::Complete) => Err(DueFault::Complete),
+        Err(fault) => Err(DueFault::of(fault)),
+    }
+}
+
+// The opening of a file's cycle.
+fn opening(job: &FileJob) -> Entry
+    ensures { result ≡ opening job.now }
+{
+    let file = job.file();
+    Entry::Open {
+        company: file.company(),
+        cycle: file.cycle(),
+        count: file.count(),
+        day: file.day(),
+        digest: *job.digest(),
+    }
+}
+
+// A line of a file, from 1.
+fn line_entry(file: &FileView<'_>, line: u32) -> Entry
+    requires { (1 ≤ line) × (line ≤ file.now.count) }
+    ensures { result ≡ line_entry file.now line }
+{
+    Entry::Line {
+        company: file.company(),
+        cycle: file.cycle(),
+        line,
+        bytes: *file.records(line),
+    }
+}
+
+// The line of a file that is next, by its standing.
+fn next_line(count: u32, standing: Result<Standing, CycleFault>) -> u32
+    requires { count ≤ 10_000 }
+    ensures { result ≡ next_line count standing }
+{
+    match standing {
+        Ok(Standing::New) | Err(_) => 0,
+        Ok(Standing::Resume(line)) => line,
+        Ok(Standing::Complete) => count + 1,
+    }
+}
+
+// What is told of a complete file.
+fn done_of_file(office: &Office, job: &FileJob) -> FileDone
+    requires { file_standing office.now.state job.now ≡ Ok Complete }
+    ensures { result ≡ done_of office.now.state (Job.File job.now) }
+{
+    let file = job.file();
+    FileDone {
+        company: file.company(),
+        cycle: file.cycle(),
+        count: file.count(),
+        refused: count_refused(kept_codes(office, job)),
+    }
+}
+
+// The codes that are kept for a file's cycle.
+fn kept_codes<'a>(office: &'a Office, job: &FileJob) -> &'a [u16]
+    ensures { result.now ≡ kept_codes office.now.state job.now }
+{
+    let file = job.file();
+    match office.codes(file.company(), file.cycle()) {
+        Some(codes) => codes,
+        None => &[],
+    }
+}
+
+// How many codes are not 0.
+fn count_refused(codes: &[u16]) -> u32
+    requires { length codes.now ≤ 10_000 }
+    ensures { result ≡ count_by (λ code. not (code == 0)) codes.now }
+{
+    codes.iter().filter(|code| **code != 0).count() as u32
+}
+
+// Puts the reply to a complete job.
+fn put_reply<K: Sink>(office: &Office, job: &Job, sink: &mut K) -> Result<(), SinkFault>
+    requires { job_standing office.now.state job.now ≡ Ok Complete }
+    ensures whole { OnOk result (Appends (K.contents sink.old) (K.contents sink.new) (job_reply office.now.state job.now)) }
+    ensures part { OnErr result (AppendsPart (K.contents sink.old) (K.contents sink.new) (job_reply office.now.state job.now)) }
+    ensures later { K.faults sink.old ≤ K.faults sink.new }
+    ensures cause { OnErr result (Rose (K.faults sink.old) (K.faults sink.new)) }
+{
+    match job {
+        Job::File(job) => put_file_reply(office, job, sink),
+    }
+}
+
+// Puts the reply to a complete file.
+fn put_file_reply<K: Sink>(office: &Office, job: &FileJob, sink: &mut K) -> Result<(), SinkFault>
+    requires { file_standing office.now.state job.now ≡ Ok Complete }
+    ensures whole { OnOk result (Appends (K.contents sink.old) (K.contents sink.new) (job_reply office.now.state (Job.File job.now))) }
+    ensures part { OnErr result (AppendsPart (K.contents sink.old) (K.contents sink.new) (job_reply office.now.state (Job.File job.now))) }
+    ensures later { K.faults sink.old ≤ K.faults sink.new }
+    ensures cause { OnErr result (Rose (K.faults sink.old) (K.faults sink.new)) }
+{
+    put_all(sink, complete_line(&done_of_file(office, job)).bytes())?;
+    put_sized_errors(&job.file(), kept_codes(office, job), sink)
+}
+
+// Puts the error file with its length before it and the end of a line behind it.
+fn put_sized_errors<K: Sink>(
+    file: &FileView<'_>,
+    codes: &[u16],
+    sink: &mut K,
+) -> Result<(), SinkFault>
+    requires { length codes.now ≡ file.now.count }
+    ensures whole { let errors = error_file file.now codes.now in OnOk result (Appends (K.contents sink.old) (K.contents sink.new) (errors_line (length errors) ++ errors ++ 10 ∷ [])) }
+    ensures part { let errors = error_file file.now codes.now in OnErr result (AppendsPart (K.contents sink.old) (K.contents sink.new) (errors_line (length errors) ++ errors ++ 10 ∷ [])) }
+    ensures later { K.faults sink.old ≤ K.faults sink.new }
+    ensures cause { OnErr result (Rose (K.faults sink.old) (K.faults sink.new)) }
+{
+    put_all(sink, errors_line(errors_len(file, codes)).bytes())?;
+    put_errors(file, codes, sink)?;
+    put_all(sink, b"\n")
+}
+
+// Puts the error file.
+fn put_errors<K: Sink>(file: &FileView<'_>, codes: &[u16], sink: &mut K) -> Result<(), SinkFault>
+    requires { length codes.now ≡ file.now.count }
+    ensures whole { OnOk result (Appends (K.contents sink.old) (K.contents sink.new) (error_file file.now codes.now)) }
+    ensures part { OnErr result (AppendsPart (K.contents sink.old) (K.contents sink.new) (error_file file.now codes.now)) }
+    ensures later { K.faults sink.old ≤ K.faults sink.new }
+    ensures cause { OnErr result (Rose (K.faults sink.old) (K.faults sink.new)) }
+{
+    match write_errors(file, codes, sink) {
+        ErrorsEnd::Done => Ok(()),
+        ErrorsEnd::SinkFault => Err(SinkFault),
+    }
+}

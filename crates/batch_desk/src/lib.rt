@@ -1,0 +1,15 @@
+//! Jobs: a carrier's file that was read, its entries one after the other, and the reply when all are
+//! booked.
+#![tactic(auto)]
+
+mod desk;
+mod job;
+mod laws;
+mod reply_line;
+mod submit;
+
+pub use desk::{desk_reply, file_done, file_read, next_entry};
+pub use job::{FileJob, Job};
+pub use laws::{complete_jobs_repeat, jobs_can_be_completed};
+pub use reply_line::{FileDone, FileRead, complete_line, frame_line, read_line, refusal_line};
+pub use submit::{SubmitFault, submit_file};

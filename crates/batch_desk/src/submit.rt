@@ -1,0 +1,71 @@
+//! Files that become jobs.
+ghost use Rattle.std.specs.Prelude.{◌≡◌, None, MatchResult, IsOk};
+ghost use Rattle.sha2.specs.Sha256.{sha256};
+ghost use Rattle.batch_frame.specs.FrameFault.{frame_fault, file_of};
+ghost use Rattle.batch_frame.specs.Told.{frame_of};
+ghost use Rattle.batch_desk.specs.FileJobs.{file_standing};
+ghost use Rattle.batch_desk.specs.SubmitFaults.{IsSubmitFault};
+
+use crate::desk::view_standing;
+use crate::job::{FileJob, Job};
+use batch_frame::{Frame, FrameFault, read_file};
+use office_state::{DueFault, Office};
+use sequence_once::digest;
+
+/// Why a file is no job.
+#[derive(Clone, Copy, Debug, PartialEq, Eq)]
+pub enum SubmitFault {
+    /// The first fault of its frame.
+    Frame(FrameFault),
+    /// Its cycle may not be opened, and is neither open nor complete with its digest.
+    Due(DueFault),
+}
+
+/// Makes a job of a carrier's file whose cycle may be opened, is open or is complete. Takes no memory
+/// and changes nothing.
+///
+/// # Errors
+///
+/// `Frame` with the first fault of the file's frame, and otherwise `Due` with the fault of its
+/// standing; the bytes are given back.
+pub fn submit_file(office: &Office, bytes: Vec<u8>) -> Result<Job, (Vec<u8>, SubmitFault)>
+    ensures { MatchResult result
+        (λ job. (job ≡ Job.File bytes.items) × (frame_fault bytes.items ≡ None) × IsOk (file_standing office.now.state bytes.items))
+        (λ refused. (refused.0 ≡ bytes) × IsSubmitFault office.now.state bytes.items refused.1) }
+{
+    match judge_file(office, &bytes) {
+        Ok(judged) => {
+            let digest = judged.digest;
+            Ok(Job::File(FileJob::of_file(bytes, judged.frame, digest)))
+        }
+        Err(fault) => Err((bytes, fault)),
+    }
+}
+
+// What a file that becomes a job told, and its digest.
+#[derive(Clone, Copy)]
+struct JudgedFile {
+    frame: Frame,
+    digest: [u8; 32],
+}
+
+// Judges a file: it becomes a job, or this is why not.
+#[tactic(auto, unfolding(crate::specs::FileJobs::file_standing))]
+fn judge_file(office: &Office, bytes: &[u8]) -> Result<JudgedFile, SubmitFault>
+    ensures { MatchResult result
+        (λ judged. (judged.frame ≡ frame_of (file_of bytes.now)) × (judged.digest ≡ sha256 bytes.now) × (frame_fault bytes.now ≡ None) × IsOk (file_standing office.now.state bytes.now))
+        (λ fault. IsSubmitFault office.now.state bytes.now fault) }
+{
+    let file = match read_file(bytes) {
+        Ok(file) => file,
+        Err(fault) => return Err(SubmitFault::Frame(fault)),
+    };
+    let digest = digest(bytes);
+    match view_standing(office, &file, &digest) {
+        Ok(_) => Ok(JudgedFile {
+            frame: file.frame(),
+            digest,
+        }),
+        Err(fault) => Err(SubmitFault::Due(DueFault::of(fault))),
+    }
+}
