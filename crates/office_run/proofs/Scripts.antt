@@ -1,14 +1,32 @@
 -- A script has one reading.
-use Rattle.std.proofs.Common.{◌≡◌, ℕ, List, [], ◌∷◌, ◌++◌, None, inl, inr, refl, ap, sym, ◌∙◌, subst}
+use Rattle.std.proofs.Common.{◌≡◌, ℕ, ◌+◌, ◌≤◌, List, [], ◌∷◌, ◌++◌, length, None, codes, arith, refl, ap, sym, ◌∙◌, subst}
 use Rattle.std.proofs.lemmas.Option.{some_pair_parts}
-use Rattle.office_run.specs.ScriptGrammar.{Command, Line, Ask, BeginsWith, Reads, IsScript, StopsAfter}
+use Rattle.office_run.specs.ScriptGrammar.{Command, Ask, File, Next, Batch, ask_text, file_text, BeginsWith, Reads, IsScript, StopsAfter}
 use Rattle.office_run.specs.ScriptReading.{command_at}
 use Rattle.office_run.proofs.CommandTexts.{command_at-begins}
+use Rattle.office_run.proofs.LineTexts.{line_size}
+
+-- at least so many bytes spell a command
+abbrev pub size : Command → ℕ
+size (Ask position tn since) = 1
+size (File content) = length content + 1
+size Next = 1
+size Batch = 1
+
+-- the bytes of a command are counted
+pub begins-size : (bytes : List ℕ) (command : Command) (rest : List ℕ) → BeginsWith bytes command rest → size command + length rest ≤ length bytes
+begins-size bytes (Ask position tn since) rest h = omega (arith, line_size bytes (ask_text position tn since) rest h.spelled)
+begins-size bytes (File content) rest h =
+    omega (arith, line_size bytes (file_text (length content)) h.spelled.0 h.spelled.1, line_size h.spelled.0 content rest h.spelled.2)
+begins-size bytes Next rest h = omega (arith, line_size bytes (codes "NEXT") rest h.spelled)
+begins-size bytes Batch rest h = omega (arith, line_size bytes (codes "BATCH") rest h.spelled)
 
 -- nothing begins with a command where there is nothing
 no_command : (command : Command) (rest : List ℕ) → BeginsWith [] command rest → ⊥
-no_command (Line entry) rest h = elim h.spelled [ inl e ↦ cc e | inr e ↦ cc e.0 ]
-no_command (Ask position tn since) rest h = elim h.spelled [ inl e ↦ cc e | inr e ↦ cc e.0 ]
+no_command (Ask position tn since) rest h = omega (arith, begins-size [] (Ask position tn since) rest h)
+no_command (File content) rest h = omega (arith, begins-size [] (File content) rest h)
+no_command Next rest h = omega (arith, begins-size [] Next rest h)
+no_command Batch rest h = omega (arith, begins-size [] Batch rest h)
 
 -- two first commands are one, and so is what is left after them
 one_first : (bytes : List ℕ) (c d : Command) (x y : List ℕ) → BeginsWith bytes c x → BeginsWith bytes d y → (c ≡ d) × (x ≡ y)

@@ -1,95 +1,85 @@
 -- A run of a script, command by command.
-use Rattle.std.proofs.Common.{◌≡◌, ◌≢◌, ℕ, ◌+◌, ◌≤◌, List, [], ◌∷◌, ◌++◌, length, take, refl, ap, sym, ◌∙◌, subst, arith, Option, Some, None, append_assoc, length-append}
-use Rattle.std.proofs.lemmas.List.{append-nil}
+use Rattle.std.proofs.Common.{◌≡◌, ◌≢◌, ℕ, ◌+◌, ◌≤◌, List, [], ◌∷◌, ◌++◌, length, take, refl, ap, sym, subst, arith, Option, Some, None, length-append}
 use Rattle.std.specs.Io.KnownBytes.{Appends}
 use Rattle.std.proofs.KnownBytes.{Appends-trans, Appends-nil}
 use Rattle.ali_base.specs.WholePuts.{AppendsPart}
-use Rattle.office_state.specs.History.{OfficeState, Represents}
-use Rattle.office_run.specs.ScriptGrammar.{Command, Line, Ask, Reads}
+use Rattle.office_run.specs.ScriptGrammar.{Command, Reads}
 use Rattle.office_run.specs.ScriptReading.{command_at}
 use Rattle.office_run.specs.Replies.{reply_text}
-use Rattle.office_run.specs.Machine.{reply, replies, history_after, history_after_all}
+use Rattle.office_run.specs.Machine.{Machine, start, reply, replies_text, after, after_all, left_of}
+use Rattle.office_run.specs.MadeReply.{Keeps}
+use Rattle.office_run.specs.declared.desk.Desk.{Desk}
 use Rattle.office_run.specs.Exit.{RepliedToAll, StoppedAt, RepliedInPart, RepliedToSome}
 use Rattle.office_run.proofs.CommandTexts.{begins-command_at}
-use Rattle.office_run.proofs.Scripts.{Reads-snoc, no_first}
+use Rattle.office_run.proofs.Scripts.{Reads-snoc, no_first, begins-size}
+use Rattle.office_run.proofs.Machines.{load, load_after, after_all-snoc, replies_text-snoc}
+use Rattle.office_run.proofs.Commands.{left_is}
 
-replies-snoc : (history : List (List ℕ)) (commands : List Command) (next : Command) → replies history (commands ++ next ∷ []) ≡ replies history commands ++ reply_text (reply (history_after_all history commands) next)
-replies-snoc history [] next = append-nil (reply_text (reply history next))
-replies-snoc history (c ∷ cs) next =
-    ap (λ z. reply_text (reply history c) ++ z) (replies-snoc (history_after history c) cs next)
-    ∙ sym (append_assoc (reply_text (reply history c)) (replies (history_after history c) cs) (reply_text (reply (history_after_all (history_after history c) cs) next)))
-
-history-snoc : (history : List (List ℕ)) (commands : List Command) (next : Command) → history_after_all history (commands ++ next ∷ []) ≡ history_after (history_after_all history commands) next
-history-snoc history [] next = refl
-history-snoc history (c ∷ cs) next = history-snoc (history_after history c) cs next
-
--- a command books one entry at most
-length-history_after : (history : List (List ℕ)) (command : Command) → length (history_after history command) ≤ length history + 1
-length-history_after history (Line entry) = omega (arith, length-append history (entry ∷ []))
-length-history_after history (Ask position tn since) = omega arith
-
-length-history : (history : List (List ℕ)) (commands : List Command) → length (history_after_all history commands) ≤ length history + length commands
-length-history history [] = omega arith
-length-history history (c ∷ cs) = omega (arith, length-history (history_after history c) cs, length-history_after history c)
-
--- the commands so far have their replies, the office is the one after them, and rest is left of the script
-pub record Served (script : List ℕ) (old new : Option (List ℕ)) (rest : List ℕ) (office : OfficeState) (count : ℕ) : Type 0 where
+-- the commands so far have their replies, the desk keeps the machine after them, and rest is left of the script; what is booked and what is left of the job is no more than was read
+pub record Served (script : List ℕ) (old new : Option (List ℕ)) (rest : List ℕ) (desk : Desk) (count : ℕ) : Type 0 where
   pub commands : List Command
   pub reads : Reads script commands rest
-  pub put : Appends old new (replies [] commands)
-  pub office_is : Represents office (history_after_all [] commands)
+  pub put : Appends old new (replies_text start commands)
+  pub kept : Keeps desk (after_all start commands)
   pub count_is : count ≡ length commands
+  pub small : load (after_all start commands) + length rest ≤ length script
 
-pub served_none : (script : List ℕ) (held : Option (List ℕ)) (office : OfficeState) → Represents office [] → Served script held held script office 0
-served_none script held office h = record { commands = []; reads = refl; put = Appends-nil held; office_is = h; count_is = refl }
+pub served_none : (script : List ℕ) (held : Option (List ℕ)) (desk : Desk) → Keeps desk start → Served script held held script desk 0
+served_none script held desk h = record { commands = []; reads = refl; put = Appends-nil held; kept = h; count_is = refl; small = omega arith }
 
-pub served_entries : (script : List ℕ) (old new : Option (List ℕ)) (rest : List ℕ) (office : OfficeState) (count : ℕ) → Served script old new rest office count → office.entries ≤ count
-served_entries script old new rest office count so_far = omega (arith, so_far.office_is.entries, so_far.count_is, length-history [] so_far.commands)
+-- what is booked and what is left of the job
+pub served_room : (script : List ℕ) (old new : Option (List ℕ)) (rest : List ℕ) (desk : Desk) (count : ℕ) → Served script old new rest desk count
+    → desk.office.entries + length (left_of desk.office.state desk.job) ≤ length script
+served_room script old new rest desk count so_far =
+    let m = after_all start so_far.commands in
+    omega (arith, so_far.small, so_far.kept.office.entries, ap length (left_is desk.office desk.job m so_far.kept.office so_far.kept.job))
 
-pub served_more : (script : List ℕ) (old mid new : Option (List ℕ)) (rest after : List ℕ) (office office' : OfficeState) (count : ℕ) (next : Command)
-    → Served script old mid rest office count → Some (next, after) ≡ command_at rest
-    → ((history : List (List ℕ)) → Represents office history → Appends mid new (reply_text (reply history next)))
-    → ((history : List (List ℕ)) → Represents office history → Represents office' (history_after history next))
-    → Served script old new after office' (count + 1)
-served_more script old mid new rest after office office' count next so_far first put then =
-    let history = history_after_all [] so_far.commands in
-    let both = Appends-trans old mid new (replies [] so_far.commands) (reply_text (reply history next)) so_far.put (put history so_far.office_is) in
+pub served_more : (script : List ℕ) (old mid new : Option (List ℕ)) (rest later : List ℕ) (desk desk' : Desk) (count : ℕ) (next : Command)
+    → Served script old mid rest desk count → Some (next, later) ≡ command_at rest
+    → ((m : Machine) → Keeps desk m → Appends mid new (reply_text (reply m next)))
+    → ((m : Machine) → Keeps desk m → Keeps desk' (after m next))
+    → Served script old new later desk' (count + 1)
+served_more script old mid new rest later desk desk' count next so_far first put then =
+    let m = after_all start so_far.commands in
+    let begins = begins-command_at rest next later (sym first) in
+    let both = Appends-trans old mid new (replies_text start so_far.commands) (reply_text (reply m next)) so_far.put (put m so_far.kept) in
     record {
       commands = so_far.commands ++ next ∷ [];
-      reads = Reads-snoc script so_far.commands next rest after so_far.reads (begins-command_at rest next after (sym first));
-      put = subst (Appends old new) (sym (replies-snoc [] so_far.commands next)) both;
-      office_is = subst (Represents office') (sym (history-snoc [] so_far.commands next)) (then history so_far.office_is);
+      reads = Reads-snoc script so_far.commands next rest later so_far.reads begins;
+      put = subst (Appends old new) (sym (replies_text-snoc start so_far.commands next)) both;
+      kept = subst (Keeps desk') (sym (after_all-snoc start so_far.commands next)) (then m so_far.kept);
       count_is = omega (arith, so_far.count_is, length-append so_far.commands (next ∷ []));
+      small = omega (arith, so_far.small, begins-size rest next later begins, load_after m next so_far.kept.office.legal, ap load (after_all-snoc start so_far.commands next));
     }
 
 -- the last reply was put in part
-pub served_part : (script : List ℕ) (old mid new : Option (List ℕ)) (rest after : List ℕ) (office : OfficeState) (count : ℕ) (next : Command)
-    → Served script old mid rest office count → Some (next, after) ≡ command_at rest
-    → ((history : List (List ℕ)) → Represents office history → AppendsPart mid new (reply_text (reply history next)))
+pub served_part : (script : List ℕ) (old mid new : Option (List ℕ)) (rest later : List ℕ) (desk : Desk) (count : ℕ) (next : Command)
+    → Served script old mid rest desk count → Some (next, later) ≡ command_at rest
+    → ((m : Machine) → Keeps desk m → AppendsPart mid new (reply_text (reply m next)))
     → RepliedInPart script old new
-served_part script old mid new rest after office count next so_far first put =
-    let history = history_after_all [] so_far.commands in
-    let part = put history so_far.office_is in
+served_part script old mid new rest later desk count next so_far first put =
+    let m = after_all start so_far.commands in
+    let part = put m so_far.kept in
     record {
       commands = so_far.commands;
       next = next;
-      rest = after;
-      reads = Reads-snoc script so_far.commands next rest after so_far.reads (begins-command_at rest next after (sym first));
+      rest = later;
+      reads = Reads-snoc script so_far.commands next rest later so_far.reads (begins-command_at rest next later (sym first));
       count = part.0;
       part = part.1;
-      put = Appends-trans old mid new (replies [] so_far.commands) (take part.0 (reply_text (reply history next))) so_far.put part.2;
+      put = Appends-trans old mid new (replies_text start so_far.commands) (take part.0 (reply_text (reply m next))) so_far.put part.2;
     }
 
-pub served_all : (script : List ℕ) (old new : Option (List ℕ)) (rest : List ℕ) (office : OfficeState) (count : ℕ) → Served script old new rest office count → rest ≡ [] → RepliedToAll script old new
-served_all script old new rest office count so_far none =
+pub served_all : (script : List ℕ) (old new : Option (List ℕ)) (rest : List ℕ) (desk : Desk) (count : ℕ) → Served script old new rest desk count → rest ≡ [] → RepliedToAll script old new
+served_all script old new rest desk count so_far none =
     let P : List ℕ → Type 0 = λ z. Reads script so_far.commands z in
     record { commands = so_far.commands; reads = subst P none so_far.reads; put = so_far.put }
 
-pub served_some : (script : List ℕ) (old new : Option (List ℕ)) (rest : List ℕ) (office : OfficeState) (count : ℕ) → Served script old new rest office count → RepliedToSome script old new
-served_some script old new rest office count so_far = record { commands = so_far.commands; rest = rest; reads = so_far.reads; put = so_far.put }
+pub served_some : (script : List ℕ) (old new : Option (List ℕ)) (rest : List ℕ) (desk : Desk) (count : ℕ) → Served script old new rest desk count → RepliedToSome script old new
+served_some script old new rest desk count so_far = record { commands = so_far.commands; rest = rest; reads = so_far.reads; put = so_far.put }
 
-pub served_stop : (script : List ℕ) (old new : Option (List ℕ)) (rest : List ℕ) (office : OfficeState) (count : ℕ) → Served script old new rest office count → rest ≢ [] → command_at rest ≡ None → StoppedAt (count + 1) script old new
-served_stop script old new rest office count so_far more none =
+pub served_stop : (script : List ℕ) (old new : Option (List ℕ)) (rest : List ℕ) (desk : Desk) (count : ℕ) → Served script old new rest desk count → rest ≢ [] → command_at rest ≡ None → StoppedAt (count + 1) script old new
+served_stop script old new rest desk count so_far more none =
     record {
       commands = so_far.commands;
       stops = record { rest = rest; front = so_far.reads; more = more; stop = no_first rest none };

@@ -3,7 +3,7 @@ use Rattle.std.specs.Prelude.{◌≡◌, ℕ, ◌+◌, ◌<◌, ◌≤◌, List,
 use Rattle.std.specs.Io.KnownBytes.{Appends, Consumes, Keeps}
 use Rattle.office_run.specs.ScriptGrammar.{Command, Reads, IsScript, StopsAfter}
 use Rattle.office_run.specs.Replies.{reply_text}
-use Rattle.office_run.specs.Machine.{reply, replies, history_after_all}
+use Rattle.office_run.specs.Machine.{start, reply, replies_text, after_all}
 use Rattle.office_run.specs.ScriptInput.{script_limit, TookAll, TookPart, TookTooMany}
 use Rattle.office_run.specs.declared.status.Status.{Status}
 use Rattle.office_run.specs.declared.status.Status.TheVariants.{Done, Usage, SourceFault, SinkFault, Script, TooLong, NoMemory}
@@ -12,14 +12,14 @@ use Rattle.office_run.specs.declared.status.Status.TheVariants.{Done, Usage, Sou
 pub record RepliedToAll (script : List ℕ) (old new : Option (List ℕ)) : Type 0 where
   pub commands : List Command
   pub reads : IsScript script commands
-  pub put : Appends old new (replies [] commands)
+  pub put : Appends old new (replies_text start commands)
 
 -- command k is the first outside the grammar, and those before it have their replies
 pub record StoppedAt (k : ℕ) (script : List ℕ) (old new : Option (List ℕ)) : Type 0 where
   pub commands : List Command
   pub stops : StopsAfter script commands
   pub number : k ≡ length commands + 1
-  pub put : Appends old new (replies [] commands)
+  pub put : Appends old new (replies_text start commands)
 
 -- some commands have their replies, and the next one has a part of its reply, but not all of it
 pub record RepliedInPart (script : List ℕ) (old new : Option (List ℕ)) : Type 0 where
@@ -28,15 +28,15 @@ pub record RepliedInPart (script : List ℕ) (old new : Option (List ℕ)) : Typ
   pub rest : List ℕ
   pub reads : Reads script (commands ++ next ∷ []) rest
   pub count : ℕ
-  pub part : count < length (reply_text (reply (history_after_all [] commands) next))
-  pub put : Appends old new (replies [] commands ++ take count (reply_text (reply (history_after_all [] commands) next)))
+  pub part : count < length (reply_text (reply (after_all start commands) next))
+  pub put : Appends old new (replies_text start commands ++ take count (reply_text (reply (after_all start commands) next)))
 
 -- some commands at the front of the bytes have their replies, and nothing else was put
 pub record RepliedToSome (bytes : List ℕ) (old new : Option (List ℕ)) : Type 0 where
   pub commands : List Command
   pub rest : List ℕ
   pub reads : Reads bytes commands rest
-  pub put : Appends old new (replies [] commands)
+  pub put : Appends old new (replies_text start commands)
 
 -- left and left' are what the source had left before and after, old and new what the sink held
 abbrev pub Exit : Option (List ℕ) → Option (List ℕ) → Option (List ℕ) → Option (List ℕ) → Status → Type 0

@@ -1,28 +1,58 @@
 -- Replies, and their text.
 use Rattle.std.specs.Prelude.{ℕ, List, [], ◌∷◌, ◌++◌, length, codes}
 use Rattle.std.specs.Fmt.{decimal}
+use Rattle.batch_frame.specs.declared.fault.FrameFault.{FrameFault}
+use Rattle.sequence_once.specs.declared.standing.CycleFault.{CycleFault}
+use Rattle.text_line.specs.WordLines.{line_of}
+use Rattle.office_state.specs.OfficeState.{State}
+use Rattle.batch_desk.specs.declared.job.Job.{Job}
+use Rattle.batch_desk.specs.declared.reply_line.FileRead.{FileRead}
+use Rattle.batch_desk.specs.declared.reply_line.FileDone.{FileDone}
+use Rattle.batch_desk.specs.ReplyLines.{frame_line, refusal_line, read_line, complete_line}
+use Rattle.batch_desk.specs.JobReplies.{job_reply}
 
--- Booked: the entry's number in the booked history, and its code. Ahead: fewer entries are booked than were asked for. Answer: after so many entries, the form
+-- Ahead: fewer entries are booked than were asked for. Answer: the form of a number after so many entries. Frame: the first fault of a file's frame. Refused: the fault of a file's standing. Read: a file was read. NoJob: no file was read. Complete: all entries of the file are booked. Booked: the number of an entry in the booked history, and its code. Finished: all entries of the job are booked, in this state, and its error file follows
 pub data Reply : Type 0 where
-  Booked : (number code : ℕ) → Reply
   Ahead : (since count : ℕ) → Reply
   Answer : (count : ℕ) (form : List ℕ) → Reply
+  Frame : (fault : FrameFault) → Reply
+  Refused : (fault : CycleFault) → Reply
+  Read : (file : FileRead) → Reply
+  NoJob : Reply
+  Complete : (file : FileDone) → Reply
+  Booked : (number code : ℕ) → Reply
+  Finished : (s : State) (job : Job) → Reply
 
 -- a word and two numbers
 abbrev pub numbers_line : List ℕ → ℕ → ℕ → List ℕ
-numbers_line word m n = word ++ 32 ∷ decimal m ++ 32 ∷ decimal n ++ 10 ∷ []
+numbers_line word m n = line_of (word ∷ decimal m ∷ decimal n ∷ [])
 
--- a reply's line
+abbrev pub no_job_line : List ℕ
+no_job_line = line_of (codes "NO" ∷ codes "JOB" ∷ [])
+
+-- a reply's line; the reply to a finished job has its own
 abbrev pub reply_line : Reply → List ℕ
-reply_line (Booked number code) = numbers_line (codes "BOOKED") number code
 reply_line (Ahead since count) = numbers_line (codes "AHEAD") since count
 reply_line (Answer count form) = numbers_line (codes "ANSWER") count (length form)
+reply_line (Frame fault) = frame_line fault
+reply_line (Refused fault) = refusal_line fault
+reply_line (Read file) = read_line file
+reply_line NoJob = no_job_line
+reply_line (Complete file) = complete_line file
+reply_line (Booked number code) = numbers_line (codes "BOOKED") number code
+reply_line (Finished s job) = []
 
--- the block that follows the line, if any
+-- what follows the line, if anything: a form, or all of the reply to a finished job
 abbrev pub reply_block : Reply → List ℕ
-reply_block (Booked number code) = []
 reply_block (Ahead since count) = []
 reply_block (Answer count form) = form
+reply_block (Frame fault) = []
+reply_block (Refused fault) = []
+reply_block (Read file) = []
+reply_block NoJob = []
+reply_block (Complete file) = []
+reply_block (Booked number code) = []
+reply_block (Finished s job) = job_reply s job
 
 unfoldable pub reply_text : Reply → List ℕ
 reply_text reply = reply_line reply ++ reply_block reply

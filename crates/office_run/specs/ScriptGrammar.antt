@@ -3,10 +3,16 @@ use Rattle.std.specs.Prelude.{◌≡◌, ◌≢◌, ◌⊎◌, ℕ, ◌^◌, ◌
 use Rattle.std.specs.Fmt.{decimal}
 use Rattle.ali_base.specs.TelephoneNumber.{IsTn}
 
--- a command: an entry to be booked, or the request of a position, which asks for a number after at least so many entries
+-- a command: the request of a position, which asks for a number after at least so many entries; a carrier's file; the next entry of the file that was read last; and all that are left of it
 pub data Command : Type 0 where
-  Line : (entry : List ℕ) → Command
   Ask : (position : ℕ) (tn : List ℕ) (since : ℕ) → Command
+  File : (content : List ℕ) → Command
+  Next : Command
+  Batch : Command
+
+-- the most bytes of a carrier's file
+abbrev pub file_limit : ℕ
+file_limit = 16_777_216
 
 -- a position is 1 to 64
 pub record IsAsk (position : ℕ) (tn : List ℕ) (since : ℕ) : Type 0 where
@@ -17,22 +23,38 @@ pub record IsAsk (position : ℕ) (tn : List ℕ) (since : ℕ) : Type 0 where
 
 -- what a command of the grammar is
 abbrev pub IsCommand : Command → Type 0
-IsCommand (Line entry) = length entry ≡ 512
 IsCommand (Ask position tn since) = IsAsk position tn since
+IsCommand (File content) = length content ≤ file_limit
+IsCommand Next = Unit {0}
+IsCommand Batch = Unit {0}
 
 -- `ASK a position tn since`; the one node's letter is a
 abbrev pub ask_text : ℕ → List ℕ → ℕ → List ℕ
 ask_text position tn since = codes "ASK" ++ 32 ∷ (codes "a" ++ 32 ∷ (decimal position ++ 32 ∷ (tn ++ 32 ∷ decimal since)))
 
--- the text of a command, without the end of its line
-abbrev pub text : Command → List ℕ
-text (Line entry) = codes "LINE" ++ 10 ∷ entry
-text (Ask position tn since) = ask_text position tn since
+-- `FILE length`
+abbrev pub file_text : ℕ → List ℕ
+file_text len = codes "FILE" ++ 32 ∷ decimal len
 
--- the bytes begin with a command and the end of its line, which may be missing at the end of the bytes; rest is what is left
+-- the bytes are the end of a line, which may be missing at the end of the bytes; rest is what is left
+abbrev pub LineEnds : List ℕ → List ℕ → Type 0
+LineEnds bytes rest = (bytes ≡ 10 ∷ rest) ⊎ ((bytes ≡ []) × (rest ≡ []))
+
+-- the bytes begin with this text and the end of its line
+abbrev pub BeginsLine : List ℕ → List ℕ → List ℕ → Type 0
+BeginsLine bytes text rest = (tail : List ℕ) × (bytes ≡ text ++ tail) × LineEnds tail rest
+
+-- the bytes begin with the text of a command: one line, which for a file has its length and is followed by its bytes and the end of a line
+abbrev pub Spelled : List ℕ → Command → List ℕ → Type 0
+Spelled bytes (Ask position tn since) rest = BeginsLine bytes (ask_text position tn since) rest
+Spelled bytes (File content) rest = (left : List ℕ) × BeginsLine bytes (file_text (length content)) left × BeginsLine left content rest
+Spelled bytes Next rest = BeginsLine bytes (codes "NEXT") rest
+Spelled bytes Batch rest = BeginsLine bytes (codes "BATCH") rest
+
+-- the bytes begin with a command; rest is what is left
 pub record BeginsWith (bytes : List ℕ) (command : Command) (rest : List ℕ) : Type 0 where
   pub lawful : IsCommand command
-  pub spelled : (bytes ≡ text command ++ 10 ∷ rest) ⊎ ((bytes ≡ text command) × (rest ≡ []))
+  pub spelled : Spelled bytes command rest
 
 -- the bytes are these commands, one after the other, and then rest
 abbrev pub Reads : List ℕ → List Command → List ℕ → Type 0

@@ -6,7 +6,7 @@ use Rattle.ali_base.specs.Steps.{◌>>=◌, when}
 use Rattle.ali_base.specs.Columns.{is_space}
 use Rattle.ali_base.specs.Digits.{digits_number}
 use Rattle.ali_base.specs.TelephoneNumber.{tn_of}
-use Rattle.office_run.specs.ScriptGrammar.{Command, Line, Ask}
+use Rattle.office_run.specs.ScriptGrammar.{Command, Ask, File, Next, Batch, file_limit}
 
 -- one to ten bytes, the first no 0 unless it is alone
 abbrev pub is_short : List ℕ → Bool
@@ -46,23 +46,37 @@ cut_at (Some at) bytes = (take at bytes, drop (at + 1) bytes)
 unfoldable pub line_at : List ℕ → List ℕ × List ℕ
 line_at bytes = cut_at (position is_line_end bytes) bytes
 
--- an entry and what follows: the end of a line, or nothing
+-- a file's bytes and what follows: the end of a line, or nothing
 abbrev pub ended : List ℕ → List ℕ → Option (Command × List ℕ)
-ended entry [] = Some (Line entry, [])
-ended entry (byte ∷ rest) = when (is_line_end byte) (Line entry, rest)
+ended content [] = Some (File content, [])
+ended content (byte ∷ rest) = when (is_line_end byte) (File content, rest)
 
--- the entry that follows `LINE`, and what is left after it and its line's end
-unfoldable pub entry_at : List ℕ → Option (Command × List ℕ)
-entry_at bytes = if nat_lt (length bytes) 512 then None else ended (take 512 bytes) (drop 512 bytes)
+-- the length of `FILE length`
+unfoldable pub file_length_of : List ℕ → Option ℕ
+file_length_of line = do
+  word ← word_at line
+  len ← number_of word.1
+  when (bytes_eq word.0 (codes "FILE") && nat_le len file_limit) len
+
+-- the file of so many bytes at the front, and what is left after it and its line's end
+unfoldable pub content_at : ℕ → List ℕ → Option (Command × List ℕ)
+content_at len bytes = if nat_lt (length bytes) len then None else ended (take len bytes) (drop len bytes)
+
+-- a file of this length, or else a request, by its line and what is left after it
+abbrev pub file_or_ask : Option ℕ → List ℕ × List ℕ → Option (Command × List ℕ)
+file_or_ask (Some len) line = content_at len line.1
+file_or_ask None line = (do
+  ask ← ask_of line.0
+  Some (ask, line.1))
 
 -- the command of a first line, and what is left after it
 abbrev pub command_of_line : List ℕ × List ℕ → Option (Command × List ℕ)
 command_of_line line =
-    if bytes_eq line.0 (codes "LINE")
-    then entry_at line.1
-    else (do
-      ask ← ask_of line.0
-      Some (ask, line.1))
+    if bytes_eq line.0 (codes "NEXT")
+    then Some (Next, line.1)
+    else (if bytes_eq line.0 (codes "BATCH")
+    then Some (Batch, line.1)
+    else file_or_ask (file_length_of line.0) line)
 
 -- the first command, and what is left after it
 unfoldable pub command_at : List ℕ → Option (Command × List ℕ)

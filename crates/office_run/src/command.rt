@@ -3,9 +3,13 @@ ghost use Rattle.std.specs.Prelude.{◌≡◌, ℕ, ◌+◌, ◌<◌, ◌≤◌,
 ghost use Rattle.std.specs.List.{position};
 ghost use Rattle.ali_base.specs.Columns.{is_space};
 ghost use Rattle.office_run.specs.ScriptGrammar as script;
-ghost use Rattle.office_run.specs.ScriptReading.{number_of, word_at, ask_of, entry_at, command_at, line_at, is_line_end};
+ghost use Rattle.office_run.specs.ScriptReading.{number_of, word_at, ask_of, file_length_of, content_at, file_or_ask, command_at, line_at, is_line_end};
+ghost use Rattle.office_run.specs.ParsedCommand.{command_of};
 
 use ali_base::{Tn, digits_number};
+
+/// The most bytes of a carrier's file.
+pub const FILE_LIMIT: u32 = 16_777_216;
 
 /// The request of a position.
 #[derive(Clone, Copy, Debug, PartialEq, Eq)]
@@ -20,10 +24,14 @@ pub struct Ask {
 /// A command of a script.
 #[derive(Clone, Copy, Debug)]
 pub enum Command<'a> {
-    /// `LINE`, and an entry of 512 bytes, which is to be booked.
-    Line(&'a [u8; 512]),
     /// `ASK a position tn since`
     Ask(Ask),
+    /// `FILE length`, and the bytes of a carrier's file, which is read.
+    File(&'a [u8]),
+    /// `NEXT`: the next entry of the file that was read last is booked.
+    Next,
+    /// `BATCH`: all entries that are left of it are booked.
+    Batch,
 }
 
 impl<'a> Command<'a> {
@@ -37,14 +45,31 @@ impl<'a> Command<'a> {
         ensures shorter { IfSome result (λ x. length x.1.now < length bytes.now) }
     {
         let (line, rest) = line_at(bytes);
-        if line == b"LINE".as_slice() {
-            let (entry, rest) = entry_at(rest)?;
-            return Some((Command::Line(entry), rest));
+        if line == b"NEXT".as_slice() {
+            return Some((Command::Next, rest));
         }
-        match ask_of(line) {
+        if line == b"BATCH".as_slice() {
+            return Some((Command::Batch, rest));
+        }
+        file_or_ask(line, rest)
+    }
+}
+
+// A file, or else a request, by its line and what is left after it.
+fn file_or_ask<'a>(line: &'a [u8], rest: &'a [u8]) -> Option<(Command<'a>, &'a [u8])>
+    ensures command { option_map (λ x. (command_of x.0, x.1.now)) result ≡ file_or_ask (file_length_of line.now) (line.now, rest.now) }
+    ensures some { IfSome result (λ x. 0 < length line.now) }
+    ensures no_longer { IfSome result (λ x. length x.1.now ≤ length rest.now) }
+{
+    match file_length_of(line) {
+        Some(len) => {
+            let (content, rest) = content_at(len as usize, rest)?;
+            Some((Command::File(content), rest))
+        }
+        None => match ask_of(line) {
             Some(ask) => Some((Command::Ask(ask), rest)),
             None => None,
-        }
+        },
     }
 }
 
@@ -119,16 +144,31 @@ fn ask_of(line: &[u8]) -> Option<Ask>
     }
 }
 
-// The entry that follows `LINE`, and what is left after it.
-#[tactic(auto, unfolding(crate::specs::ScriptReading::entry_at))]
-fn entry_at(bytes: &[u8]) -> Option<(&[u8; 512], &[u8])>
-    ensures line { option_map (λ x. (script.Line x.0.now, x.1.now)) result ≡ entry_at bytes.now }
-    ensures shorter { IfSome result (λ x. length x.1.now < length bytes.now) }
+// The length of `FILE length`, at most 16,777,216.
+#[tactic(auto, unfolding(crate::specs::ScriptReading::file_length_of))]
+fn file_length_of(line: &[u8]) -> Option<u32>
+    ensures len { result ≡ file_length_of line.now }
+    ensures some { IfSome result (λ len. 0 < length line.now) }
 {
-    let (entry, rest) = bytes.split_first_chunk::<512>()?;
+    let (word, len) = word_at(line)?;
+    let len = number_of(len)?;
+    if word == b"FILE".as_slice() && len <= FILE_LIMIT {
+        Some(len)
+    } else {
+        None
+    }
+}
+
+// The file of so many bytes at the front, and what is left after it and its line's end.
+#[tactic(auto, unfolding(crate::specs::ScriptReading::content_at))]
+fn content_at(len: usize, bytes: &[u8]) -> Option<(&[u8], &[u8])>
+    ensures content { option_map (λ x. (script.File x.0.now, x.1.now)) result ≡ content_at len bytes.now }
+    ensures no_longer { IfSome result (λ x. length x.1.now ≤ length bytes.now) }
+{
+    let (content, rest) = bytes.split_at_checked(len)?;
     match rest {
-        [] => Some((entry, rest)),
-        [b'\n', rest @ ..] => Some((entry, rest)),
+        [] => Some((content, rest)),
+        [b'\n', rest @ ..] => Some((content, rest)),
         _ => None,
     }
 }

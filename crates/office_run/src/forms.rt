@@ -2,19 +2,19 @@
 ghost use Rattle.std.specs.Prelude.{◌≡◌, ℕ, ◌+◌, ◌≤◌, List, ◌++◌, length, take};
 ghost use Rattle.std.specs.Option.{option_copied};
 ghost use Rattle.ali_record.specs.Layout.{field_columns};
-ghost use Rattle.office_state.specs.AnswerForm.{with_word, printed_house, missing_line, number_line, name_line, address_line, city_line, location_line, company_line, row_form, form};
+ghost use Rattle.text_line.specs.WordLines.{with_word};
+ghost use Rattle.office_state.specs.AnswerForm.{printed_house, missing_line, number_line, name_line, address_line, city_line, location_line, lock_word, company_line, row_form, form};
 
-use crate::line::Line;
-use ali_base::Tn;
+use ali_base::{Day, Tn};
 use ali_record::{Field, Record};
-use itoa::Buffer;
-use office_state::Row;
+use number_life::Row;
+use text_line::Line;
 
 // Adds the house number, where its columns are not blank.
 fn add_house(line: &mut Line, rec: &Record)
-    requires { length line.old + 41 ≤ 160 }
+    requires { length line.old + 21 ≤ 160 }
     ensures line { line.new ≡ with_word line.old (printed_house rec.now) }
-    ensures len { length line.new ≤ length line.old + 41 }
+    ensures len { length line.new ≤ length line.old + 21 }
 {
     if rec.house_blank() {
         return;
@@ -23,8 +23,7 @@ fn add_house(line: &mut Line, rec: &Record)
         Some(house) => house.number(),
         None => 0,
     };
-    let mut buffer = Buffer::new();
-    line.add_word(buffer.format(number).as_bytes());
+    line.add_number(u64::from(number));
 }
 
 fn number_line(rec: &Record) -> Line
@@ -38,7 +37,7 @@ fn number_line(rec: &Record) -> Line
     line.add_word(rec.text(Field::ClassOfService));
     line.add_word(b"TYPE");
     line.add_word(rec.text(Field::TypeOfService));
-    line.push(b"\n");
+    line.end();
     line
 }
 
@@ -49,7 +48,7 @@ fn name_line(rec: &Record) -> Line
     let mut line = Line::new();
     line.add_word(b"NAME");
     line.add_word(rec.text(Field::CustomerName));
-    line.push(b"\n");
+    line.end();
     line
 }
 
@@ -65,7 +64,7 @@ fn address_line(rec: &Record) -> Line
     line.add_word(rec.text(Field::StreetName));
     line.add_word(rec.text(Field::StreetSuffix));
     line.add_word(rec.text(Field::PostDirectional));
-    line.push(b"\n");
+    line.end();
     line
 }
 
@@ -77,7 +76,7 @@ fn city_line(rec: &Record) -> Line
     line.add_word(b"CITY");
     line.add_word(rec.text(Field::Community));
     line.add_word(rec.text(Field::State));
-    line.push(b"\n");
+    line.end();
     line
 }
 
@@ -88,21 +87,32 @@ fn location_line(rec: &Record) -> Line
     let mut line = Line::new();
     line.add_word(b"LOC");
     line.add_word(rec.text(Field::Location));
-    line.push(b"\n");
+    line.end();
     line
 }
 
-fn company_line(rec: &Record) -> Line
-    ensures line { result ≡ company_line rec.now }
+// Whether a row is locked.
+fn lock_word(unlocked: Option<Day>) -> &'static [u8]
+    ensures word { result.now ≡ lock_word unlocked }
+    ensures len { length result.now ≤ 8 }
+{
+    match unlocked {
+        None => b"LOCKED",
+        Some(_) => b"UNLOCKED",
+    }
+}
+
+fn company_line(row: &Row) -> Line
+    ensures line { result ≡ company_line row.now }
     ensures len { length result ≤ 40 }
 {
     let mut line = Line::new();
     line.add_word(b"ESN");
-    line.add_word(rec.text(Field::Esn));
+    line.add_word(row.rec.text(Field::Esn));
     line.add_word(b"CO");
-    line.add_word(rec.text(Field::Company));
-    line.add_word(b"LOCKED");
-    line.push(b"\n");
+    line.add_word(row.rec.text(Field::Company));
+    line.add_word(lock_word(row.unlocked));
+    line.end();
     line
 }
 
@@ -116,7 +126,7 @@ fn missing_line(tn: Tn) -> Line
     line.add_word(b"NO");
     line.add_word(b"RECORD");
     line.add_word(b"FOUND");
-    line.push(b"\n");
+    line.end();
     line
 }
 
@@ -134,16 +144,17 @@ fn put_line(out: &mut [u8; 640], at: usize, line: &Line) -> usize
 
 // Writes the six lines of a row.
 #[tactic(auto, unfolding(office_state::specs::AnswerForm::row_form))]
-fn row_form(rec: &Record, out: &mut [u8; 640]) -> usize
-    ensures text { take result out.new ≡ row_form rec.now }
+fn row_form(row: &Row, out: &mut [u8; 640]) -> usize
+    ensures text { take result out.new ≡ row_form row.now }
     ensures end { result ≤ 640 }
 {
+    let rec = &row.rec;
     let at = put_line(out, 0, &number_line(rec));
     let at = put_line(out, at, &name_line(rec));
     let at = put_line(out, at, &address_line(rec));
     let at = put_line(out, at, &city_line(rec));
     let at = put_line(out, at, &location_line(rec));
-    put_line(out, at, &company_line(rec))
+    put_line(out, at, &company_line(row))
 }
 
 /// Writes the form of a number, which has this row or none, at the front of `out`, and answers its
@@ -154,7 +165,7 @@ pub fn form(row: Option<&Row>, tn: Tn, out: &mut [u8; 640]) -> usize
     ensures end { result ≤ 640 }
 {
     match row {
-        Some(row) => row_form(&row.rec, out),
+        Some(row) => row_form(row, out),
         None => put_line(out, 0, &missing_line(tn)),
     }
 }

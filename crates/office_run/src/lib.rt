@@ -2,10 +2,10 @@
 #![tactic(auto)]
 
 mod command;
+mod desk;
 mod forms;
 mod input;
 mod laws;
-mod line;
 mod reply;
 mod run;
 mod status;
@@ -13,8 +13,10 @@ mod words;
 
 pub use command::{Ask, Command};
 pub use forms::form;
-pub use laws::{commands_are_read_as_spelled, history_only_grows, scripts_have_one_reading};
-pub use reply::{Form, Reply};
+pub use laws::{
+    batches_complete_their_files, commands_are_read_as_spelled, histories_are_legal,
+    history_only_grows, repeated_files_get_the_same_reply, scripts_have_one_reading,
+};
 pub use run::office;
 pub use status::Status;
 

@@ -2,18 +2,18 @@
 ghost use Rattle.std.specs.Prelude.{◌≡◌, ℕ, ◌↔◌, ◌≤◌, ◌≢◌, true, false, List, [], length};
 ghost use Rattle.ali_base.specs.Faults.{Rose};
 ghost use Rattle.office_run.specs.ScriptInput.{script_limit, TookAll};
-ghost use Rattle.office_state.specs.History.{Represents};
+ghost use Rattle.office_run.specs.Machine.{start};
+ghost use Rattle.office_run.specs.MadeReply.{Keeps};
 ghost use Rattle.office_run.specs.Exit.{Exit, Completes};
 ghost use Rattle.office_run.specs.Served.{Serves};
 ghost use Rattle.office_run.specs.Words.{is_run, texts};
 
 use crate::command::Command;
+use crate::desk::Desk;
 use crate::input::{InputFault, read_all};
-use crate::reply::Reply;
 use crate::status::Status;
 use crate::words::is_run;
 use ali_base::{NoMemory, Sink, Source};
-use office_state::Office;
 use std::alloc::Global;
 
 /// Runs the script that the source holds, where the words are `run DIR`: it reads the source to its
@@ -60,21 +60,21 @@ fn run<S: Source, K: Sink>(alloc: Global, source: &mut S, sink: &mut K) -> Statu
     }
 }
 
-// Runs a script over an empty office.
+// Runs a script at an empty desk.
 fn serve<K: Sink>(alloc: Global, script: &[u8], sink: &mut K) -> Status
     requires { length script.now ≤ script_limit }
     ensures serves { Serves script.now (K.contents sink.old) (K.contents sink.new) result }
     ensures sink_fault { result ≡ Status.SinkFault → Rose (K.faults sink.old) (K.faults sink.new) }
 {
-    match Office::new(alloc) {
-        Ok(mut office) => answer_all(&mut office, script, sink),
+    match Desk::new(alloc) {
+        Ok(mut desk) => answer_all(alloc, &mut desk, script, sink),
         Err(NoMemory) => Status::NoMemory,
     }
 }
 
 // Answers the commands one after the other, and puts each reply whole before the next command.
-fn answer_all<K: Sink>(office: &mut Office, script: &[u8], sink: &mut K) -> Status
-    requires empty { Represents office.old [] }
+fn answer_all<K: Sink>(alloc: Global, desk: &mut Desk, script: &[u8], sink: &mut K) -> Status
+    requires empty { Keeps desk.old start }
     requires limit { length script.now ≤ script_limit }
     ensures serves { Serves script.now (K.contents sink.old) (K.contents sink.new) result }
     ensures sink_fault { result ≡ Status.SinkFault → Rose (K.faults sink.old) (K.faults sink.new) }
@@ -86,11 +86,11 @@ fn answer_all<K: Sink>(office: &mut Office, script: &[u8], sink: &mut K) -> Stat
             Some(found) => found,
             None => return Status::Script(count + 1),
         };
-        let reply = match Reply::to(office, &command) {
+        let reply = match desk.carry_out(alloc, &command) {
             Ok(reply) => reply,
             Err(NoMemory) => return Status::NoMemory,
         };
-        if reply.put(sink).is_err() {
+        if desk.put(&reply, sink).is_err() {
             return Status::SinkFault;
         }
         rest = after;

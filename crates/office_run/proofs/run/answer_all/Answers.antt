@@ -5,49 +5,49 @@ use Rattle.ali_base.specs.WholePuts.{AppendsPart}
 use Rattle.office_run.specs.Replies.{Reply, reply_text}
 use Rattle.office_run.specs.ParsedCommand.{command_of}
 use Rattle.office_run.specs.MadeReply.{reply_of}
-use Rattle.office_run.proofs.Serving.{served_more, served_part, served_stop, served_entries}
+use Rattle.office_run.proofs.Serving.{served_more, served_part, served_stop, served_room}
 use Rattle.office_run.proofs.run.answer_all.Goals as goal
 
 pub returns-in-None-clause-serves : goal.returns-in-None-clause-serves
 returns-in-None-clause-serves g c =
     let contents = g.K.Sink.contents in
     let more : c.loop-rest.rest.now ≢ [] = grind (arith, common_steps) in
-    served_stop c.args.script.now (contents c.args.sink.now) (contents c.loop-rest.sink) c.loop-rest.rest.now c.loop-rest.office c.loop-rest.count
+    served_stop c.args.script.now (contents c.args.sink.now) (contents c.loop-rest.sink) c.loop-rest.rest.now c.loop-rest.desk c.loop-rest.count
     c.loop-rest.invariant.served more (sym c.in-None.ensures.command)
 
-pub to-requires : goal.to-requires
-to-requires g c =
+pub carry_out-requires : goal.carry_out-requires
+carry_out-requires g c =
     let contents = g.K.Sink.contents in
     omega (
       arith,
       c.requires.limit,
       c.loop-rest.invariant.small,
-      served_entries c.args.script.now (contents c.args.sink.now) (contents c.loop-rest.sink) c.loop-rest.rest.now c.loop-rest.office c.loop-rest.count c.loop-rest.invariant.served,
+      served_room c.args.script.now (contents c.args.sink.now) (contents c.loop-rest.sink) c.loop-rest.rest.now c.loop-rest.desk c.loop-rest.count c.loop-rest.invariant.served,
     )
 
 pub returns-then-is_err-clause-serves : goal.returns-then-is_err-clause-serves
 returns-then-is_err-clause-serves g c =
     let contents = g.K.Sink.contents in
     let next = command_of c.in-Some.found.0 in
-    let part : AppendsPart (contents c.loop-rest.sink) (contents c.put.new.sink) (reply_text (reply_of c.in-Ok.reply)) = grind (arith, common_steps) in
+    let part : AppendsPart (contents c.loop-rest.sink) (contents c.put.new.sink) (reply_text (reply_of c.carry_out.new.self.office.state c.carry_out.new.self.job c.in-Ok.reply)) = grind (arith, common_steps) in
     let P : Reply → Type 0 = λ r. AppendsPart (contents c.loop-rest.sink) (contents c.put.new.sink) (reply_text r) in
     served_part c.args.script.now (contents c.args.sink.now) (contents c.loop-rest.sink) (contents c.put.new.sink)
-    c.loop-rest.rest.now c.in-Some.found.1.now c.loop-rest.office c.loop-rest.count next
+    c.loop-rest.rest.now c.in-Some.found.1.now c.loop-rest.desk c.loop-rest.count next
     c.loop-rest.invariant.served c.in-Some.ensures.command
-    (λ history represents. subst P (c.in-Ok.ensures.reply history represents) part)
+    (λ m kept. subst P (c.in-Ok.ensures.reply m kept) part)
 
 pub loop-rest-preserved : goal.loop-rest-preserved
 loop-rest-preserved g c =
     let contents = g.K.Sink.contents in
     let next = command_of c.in-Some.found.0 in
-    let whole : Appends (contents c.loop-rest.sink) (contents c.put.new.sink) (reply_text (reply_of c.in-Ok.reply)) = grind (arith, common_steps) in
+    let whole : Appends (contents c.loop-rest.sink) (contents c.put.new.sink) (reply_text (reply_of c.carry_out.new.self.office.state c.carry_out.new.self.job c.in-Ok.reply)) = grind (arith, common_steps) in
     let P : Reply → Type 0 = λ r. Appends (contents c.loop-rest.sink) (contents c.put.new.sink) (reply_text r) in
     record {
       served = served_more c.args.script.now (contents c.args.sink.now) (contents c.loop-rest.sink) (contents c.put.new.sink)
-          c.loop-rest.rest.now c.in-Some.found.1.now c.loop-rest.office c.to.new.office c.loop-rest.count next
+          c.loop-rest.rest.now c.in-Some.found.1.now c.loop-rest.desk c.carry_out.new.self c.loop-rest.count next
           c.loop-rest.invariant.served c.in-Some.ensures.command
-          (λ history represents. subst P (c.in-Ok.ensures.reply history represents) whole)
-          c.in-Ok.ensures.history;
+          (λ m kept. subst P (c.in-Ok.ensures.reply m kept) whole)
+          c.in-Ok.ensures.after;
       small = omega (arith, c.in-Some.ensures.shorter);
       later = omega arith;
     }
