@@ -5,7 +5,7 @@ pub mod LineTexts
 pub mod NumberTexts
 pub mod Scripts
 pub mod SpacedWords
-pub mod Puts
+pub mod Results
 pub mod Taking
 pub mod Completeness
 pub mod Desks

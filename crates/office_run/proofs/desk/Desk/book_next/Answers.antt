@@ -1,7 +1,7 @@
 use Rattle.std.proofs.Common.{◌++◌, take, sym, subst}
 use Rattle.office_state.specs.History.{Represents}
 use Rattle.office_run.specs.Machine.{office_limits, left_of}
-use Rattle.office_run.proofs.Puts.{OnOk-weaker}
+use Rattle.office_run.proofs.Results.{OnOk-weaker}
 use Rattle.office_run.proofs.desk.Desk.book_next.Goals as goal
 
 pub returns-in-Some-clause-office : goal.returns-in-Some-clause-office

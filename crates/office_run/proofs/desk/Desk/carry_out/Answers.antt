@@ -3,7 +3,7 @@ use Rattle.office_state.specs.History.{Represents}
 use Rattle.office_run.specs.Machine.{office_limits, after, reply}
 use Rattle.office_run.specs.ParsedCommand.{command_of}
 use Rattle.office_run.specs.MadeReply.{Keeps}
-use Rattle.office_run.proofs.Puts.{OnOk-weaker, IfOk-weaker, both_ok}
+use Rattle.office_run.proofs.Results.{OnOk-weaker, IfOk-weaker, both_ok}
 use Rattle.office_run.proofs.Commands.{says_ask, says_file, says_next, says_batch, job_after, next_kept, batch_kept}
 use Rattle.office_run.proofs.desk.Desk.carry_out.Goals as goal
 

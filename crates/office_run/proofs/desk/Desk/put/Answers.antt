@@ -3,7 +3,8 @@ use Rattle.std.specs.Io.KnownBytes.{Appends}
 use Rattle.ali_base.specs.WholePuts.{AppendsPart}
 use Rattle.office_run.specs.Replies.{reply_line, reply_block, reply_text}
 use Rattle.office_run.specs.MadeReply.{reply_of}
-use Rattle.office_run.proofs.Puts.{OnErr-weaker, part_of_second}
+use Rattle.office_run.proofs.Results.{OnErr-weaker}
+use Rattle.batch_desk.proofs.Replies.{second_part}
 use Rattle.office_run.proofs.desk.Desk.put.Goals as goal
 
 pub returns-clause-part : goal.returns-clause-part
@@ -16,5 +17,5 @@ returns-clause-part g c =
     OnErr-weaker c.put_block.result
     (AppendsPart (contents c.put_all.new.sink) (contents c.put_block.new.sink) (reply_block reply))
     (AppendsPart (contents c.args.sink.now) (contents c.put_block.new.sink) (reply_text reply))
-    (part_of_second (contents c.args.sink.now) (contents c.put_all.new.sink) (contents c.put_block.new.sink) (reply_line reply) (reply_block reply) (reply_text reply) refl first)
+    (second_part (reply_text reply) (reply_line reply) (reply_block reply) (contents c.args.sink.now) (contents c.put_all.new.sink) (contents c.put_block.new.sink) refl first)
     c.put_block.ensures.part
