@@ -9,7 +9,7 @@ use Rattle.ali_base.specs.TelephoneNumber.{tn_of}
 use Rattle.ali_base.specs.CivilDay.{day_of}
 use Rattle.ali_base.specs.Company.{is_company, company_of}
 use Rattle.ali_record.specs.Layout.{field_of, byte_of}
-use Rattle.ali_record.specs.RecordReading.{IsAccepted, reading_code, conditions, first_code, is_function, is_class_of_service, is_type_of_service}
+use Rattle.ali_record.specs.RecordReading.{IsAccepted, reading_code, conditions, first_code, is_function, sends_address, is_class_of_service, is_type_of_service}
 use Rattle.ali_record.specs.declared.field.Field.TheVariants.{Function, TelephoneNumber, HouseNumber, ExtractDate, ClassOfService, TypeOfService, Company, EndMark}
 
 -- the first condition does not hold, and the others decide
@@ -28,7 +28,7 @@ pub accepted-none : (b : List ℕ) → IsAccepted b → AllByRecursion (λ c. c.
 unfolding reading_code conditions
 accepted-none b h =
     none_holds (conditions (field_of b Company) b)
-    (omega arith, (omega arith, (omega arith, (omega arith, (omega arith, (omega arith, (omega arith, (omega arith, (omega arith, (omega arith, tt))))))))))
+    (omega arith, (omega arith, (omega arith, (omega arith, (omega arith, (omega arith, (omega arith, (omega arith, (omega arith, tt)))))))))
     h.reading
 
 some_of : {A : Type 0} (o : Option A) → is_none o ≡ false → IsSome o
@@ -40,14 +40,14 @@ pub accepted-tn : (b : List ℕ) → IsAccepted b → IsSome (tn_of (field_of b 
 unfolding conditions
 accepted-tn b h =
     let none = accepted-none b h in
-    some_of (tn_of (field_of b TelephoneNumber)) none.1.1.1.1.0
+    some_of (tn_of (field_of b TelephoneNumber)) none.1.1.1.0
 
 -- its extract date is one
 pub accepted-day : (b : List ℕ) → IsAccepted b → IsSome (day_of (field_of b ExtractDate))
 unfolding conditions
 accepted-day b h =
     let none = accepted-none b h in
-    some_of (day_of (field_of b ExtractDate)) none.1.1.1.1.1.1.0
+    some_of (day_of (field_of b ExtractDate)) none.1.1.1.1.1.0
 
 -- a telephone number is its bytes
 pub tn_of-same : (bytes tn : List ℕ) → tn_of bytes ≡ Some tn → tn ≡ bytes
@@ -62,15 +62,11 @@ none_of : (cs : List (Bool × ℕ)) → AllByRecursion (λ c. c.0 ≡ false) cs 
 none_of [] h = refl
 none_of (c ∷ cs) h = ap (λ b. cond b c.1 (first_code cs)) h.0 ∙ none_of cs h.1
 
-none_is : {A : Type 0} (o : Option A) → IsSome o → is_none o ≡ false
-none_is None h = cc
-none_is (Some x) h = refl
-
 -- a record that is like an accepted one in what the conditions read is accepted
 pub accepted-like : (b c : List ℕ) → IsAccepted b
     → byte_of c EndMark ≡ byte_of b EndMark → list_all is_printable c ≡ true → byte_of c Function ≡ byte_of b Function
     → field_of c TelephoneNumber ≡ field_of b TelephoneNumber → field_of c Company ≡ field_of b Company → field_of c ExtractDate ≡ field_of b ExtractDate
-    → IsSome (house_of (field_of c HouseNumber))
+    → (sends_address (byte_of b Function) && is_none (house_of (field_of c HouseNumber))) ≡ false
     → byte_of c ClassOfService ≡ byte_of b ClassOfService → byte_of c TypeOfService ≡ byte_of b TypeOfService → IsAccepted c
 unfolding reading_code conditions
 accepted-like b c h end printed function tn company day house class type =
@@ -84,21 +80,18 @@ accepted-like b c h end printed function tn company day house class type =
           (
             ap (λ z. not (is_function z)) function ∙ old.1.1.0,
             (
-              ap (λ z. not (z == 73)) function ∙ old.1.1.1.0,
+              ap (λ z. is_none (tn_of z)) tn ∙ old.1.1.1.0,
               (
-                ap (λ z. is_none (tn_of z)) tn ∙ old.1.1.1.1.0,
+                ap (λ z. not (bytes_eq z z)) company ∙ old.1.1.1.1.0,
                 (
-                  ap (λ z. not (bytes_eq z z)) company ∙ old.1.1.1.1.1.0,
+                  ap (λ z. is_none (day_of z)) day ∙ old.1.1.1.1.1.0,
                   (
-                    ap (λ z. is_none (day_of z)) day ∙ old.1.1.1.1.1.1.0,
+                    ap (λ z. sends_address z && is_none (house_of (field_of c HouseNumber))) function ∙ house,
                     (
-                      none_is (house_of (field_of c HouseNumber)) house,
+                      ap (λ z. sends_address z && not (is_class_of_service (byte_of c ClassOfService))) function ∙ ap (λ z. sends_address (byte_of b Function) && not (is_class_of_service z)) class ∙ old.1.1.1.1.1.1.1.0,
                       (
-                        ap (λ z. not (is_class_of_service z)) class ∙ old.1.1.1.1.1.1.1.1.0,
-                        (
-                          ap (λ z. not (is_type_of_service z)) type ∙ old.1.1.1.1.1.1.1.1.1.0,
-                          tt,
-                        ),
+                        ap (λ z. sends_address z && not (is_type_of_service (byte_of c TypeOfService))) function ∙ ap (λ z. sends_address (byte_of b Function) && not (is_type_of_service z)) type ∙ old.1.1.1.1.1.1.1.1.0,
+                        tt,
                       ),
                     ),
                   ),
@@ -110,7 +103,7 @@ accepted-like b c h end printed function tn company day house class type =
       );
     }
 
--- its bytes can be printed, and its house number is read
+-- its bytes can be printed, and the house number of its address is read
 pub accepted-printed : (b : List ℕ) → IsAccepted b → list_all is_printable b ≡ true
 unfolding conditions
 accepted-printed b h = not_false (list_all is_printable b) (accepted-none b h).1.0
@@ -119,9 +112,15 @@ accepted-printed b h = not_false (list_all is_printable b) (accepted-none b h).1
     not_false true h = refl
     not_false false h = cc
 
-pub accepted-house : (b : List ℕ) → IsAccepted b → IsSome (house_of (field_of b HouseNumber))
+pub accepted-house : (b : List ℕ) → IsAccepted b → (sends_address (byte_of b Function) && is_none (house_of (field_of b HouseNumber))) ≡ false
 unfolding conditions
-accepted-house b h = some_of (house_of (field_of b HouseNumber)) (accepted-none b h).1.1.1.1.1.1.1.0
+accepted-house b h = (accepted-none b h).1.1.1.1.1.1.0
+
+-- a house number that is read breaks no condition
+pub house_read : (b : Bool) (house : Option ℕ) → IsSome house → (b && is_none house) ≡ false
+house_read true None h = cc
+house_read true (Some n) h = refl
+house_read false house h = refl
 
 -- the company of its columns is one
 pub accepted-company : (b : List ℕ) → IsAccepted b → company_of (field_of b Company) ≡ Some (field_of b Company)

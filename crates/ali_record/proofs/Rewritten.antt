@@ -1,12 +1,12 @@
 -- Accepted records with another house number or another ESN.
-use Rattle.std.proofs.Common.{◌≡◌, ℕ, ◌+◌, ◌≤◌, List, length, take, drop, refl, ap, sym, ◌∙◌, subst, arith, IsSome}
+use Rattle.std.proofs.Common.{◌≡◌, ℕ, ◌+◌, ◌≤◌, List, length, take, drop, refl, ap, sym, ◌∙◌, subst, arith, ◌&&◌, is_none, IsSome}
 use Rattle.ali_base.specs.HouseNumber.{house_of, house_text}
 use Rattle.ali_base.specs.Numbers.{zero_padded}
-use Rattle.ali_record.specs.Layout.{field_of}
+use Rattle.ali_record.specs.Layout.{field_of, byte_of}
 use Rattle.ali_record.specs.FieldChanges.{with_house, with_esn}
-use Rattle.ali_record.specs.RecordReading.{IsAccepted}
-use Rattle.ali_record.specs.declared.field.Field.TheVariants.{HouseNumber}
-use Rattle.ali_record.proofs.Accepted.{accepted-like, accepted-printed, accepted-house}
+use Rattle.ali_record.specs.RecordReading.{IsAccepted, sends_address}
+use Rattle.ali_record.specs.declared.field.Field.TheVariants.{Function, HouseNumber}
+use Rattle.ali_record.proofs.Accepted.{accepted-like, accepted-printed, accepted-house, house_read}
 use Rattle.ali_record.proofs.Overwriting.{part_before, part_after, part_inside, byte_before, byte_after, all_over}
 use Rattle.ali_record.proofs.FieldTexts.{length-house_text, house_of-text, printed-house_text, length-esn_text, printed-esn_text}
 use Rattle.ali_base.specs.Columns.{is_printable}
@@ -25,7 +25,7 @@ accepted-with_house b n len small h =
     (part_before b text 11 21 1 10 size inside (omega arith))
     (part_after b text 11 21 260 5 size inside (omega arith))
     (part_after b text 11 21 250 6 size inside (omega arith))
-    (subst (λ z. IsSome (house_of z)) (sym house) (subst IsSome (sym (house_of-text n small)) refl))
+    (house_read (sends_address (byte_of b Function)) (house_of (field_of (with_house b n) HouseNumber)) (subst (λ z. IsSome (house_of z)) (sym house) (subst IsSome (sym (house_of-text n small)) refl)))
     (byte_after b text 11 21 219 size inside (omega arith) (omega arith))
     (byte_after b text 11 21 220 size inside (omega arith) (omega arith))
 
@@ -43,6 +43,6 @@ accepted-with_esn b n len small h =
     (part_before b text 225 230 1 10 size inside (omega arith))
     (part_after b text 225 230 260 5 size inside (omega arith))
     (part_after b text 225 230 250 6 size inside (omega arith))
-    (subst (λ z. IsSome (house_of z)) (sym house) (accepted-house b h))
+    (ap (λ z. sends_address (byte_of b Function) && is_none (house_of z)) house ∙ accepted-house b h)
     (byte_before b text 225 230 219 size inside (omega arith))
     (byte_before b text 225 230 220 size inside (omega arith))

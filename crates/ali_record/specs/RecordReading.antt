@@ -22,6 +22,10 @@ is_type_of_service byte = nat_le 48 byte && nat_le byte 57
 abbrev pub is_class_of_service : ℕ → Bool
 is_class_of_service byte = (nat_le 48 byte && nat_le byte 57) || (nat_le 65 byte && nat_le byte 90)
 
+-- I, C and M send an address; what D and U have in its columns is not read
+abbrev pub sends_address : ℕ → Bool
+sends_address function = (function == 73) || (function == 67) || (function == 77)
+
 -- the conditions, each with its code; company is the five bytes of the file's header
 unfoldable pub conditions : List ℕ → List ℕ → List (Bool × ℕ)
 conditions company b =
@@ -31,18 +35,16 @@ conditions company b =
     ∷ (not (list_all is_printable b), 109)
     -- the function is none of the five
     ∷ (not (is_function (byte_of b Function)), 101)
-    -- the function is not yet served: at this stage I alone is
-    ∷ (not (byte_of b Function == 73), 199)
     -- the telephone number is not ten digits
     ∷ (is_none (tn_of (field_of b TelephoneNumber)), 102)
     -- the company is not the file's
     ∷ (not (bytes_eq (field_of b Company) company), 106)
     -- the extract date is no civil day of 2000 to 2099
     ∷ (is_none (day_of (field_of b ExtractDate)), 107)
-    -- the house number cannot be read
-    ∷ (is_none (house_of (field_of b HouseNumber)), 103)
-    ∷ (not (is_class_of_service (byte_of b ClassOfService)), 104)
-    ∷ (not (is_type_of_service (byte_of b TypeOfService)), 105)
+    -- the house number of an address cannot be read
+    ∷ (sends_address (byte_of b Function) && is_none (house_of (field_of b HouseNumber)), 103)
+    ∷ (sends_address (byte_of b Function) && not (is_class_of_service (byte_of b ClassOfService)), 104)
+    ∷ (sends_address (byte_of b Function) && not (is_type_of_service (byte_of b TypeOfService)), 105)
     ∷ []
 
 -- the code of the first condition that holds, or 0

@@ -4,7 +4,7 @@ ghost use Rattle.ali_base.specs.Columns.{trimmed, is_blank};
 ghost use Rattle.ali_base.specs.HouseNumber.{house_of};
 ghost use Rattle.ali_base.specs.CivilDay.{day_of};
 ghost use Rattle.ali_record.specs.Layout.{field_of, byte_of, field_columns};
-ghost use Rattle.ali_record.specs.RecordReading.{IsAccepted, reading_code, is_function, is_class_of_service, is_type_of_service};
+ghost use Rattle.ali_record.specs.RecordReading.{IsAccepted, reading_code, is_function, sends_address, is_class_of_service, is_type_of_service};
 
 use crate::field::Field;
 use ali_base::{Company, Day, House, Tn, columns, is_blank, is_printable, trimmed};
@@ -33,13 +33,12 @@ impl Model for Record {
 /// - 108: column 512 is not `*`
 /// - 109: a byte is not one from 0x20 to 0x7E
 /// - 101: the function is not I, C, D, U or M
-/// - 199: the function is not I, the only one that is served yet
 /// - 102: the telephone number is not ten digits
 /// - 106: the company is not that of the file
 /// - 107: the extract date is no civil day, written MMDDYY, of 2000 to 2099
-/// - 103: the house number cannot be read, or is above 999,999
-/// - 104: the class of service is not 0 to 9 or A to Z
-/// - 105: the type of service is not 0 to 9
+/// - 103, of I, C and M: the house number cannot be read, or is above 999,999
+/// - 104, of I, C and M: the class of service is not 0 to 9 or A to Z
+/// - 105, of I, C and M: the type of service is not 0 to 9
 #[tactic(auto, unfolding(crate::specs::RecordReading::reading_code, crate::specs::RecordReading::conditions))]
 pub fn read_record(bytes: &[u8; 512], company: Company) -> Result<Record, u16>
     ensures { MatchResult result
@@ -55,9 +54,6 @@ pub fn read_record(bytes: &[u8; 512], company: Company) -> Result<Record, u16>
     if !is_function(byte_of(bytes, Field::Function)) {
         return Err(101);
     }
-    if byte_of(bytes, Field::Function) != b'I' {
-        return Err(199);
-    }
     if Tn::read(field_of(bytes, Field::TelephoneNumber)).is_none() {
         return Err(102);
     }
@@ -67,13 +63,14 @@ pub fn read_record(bytes: &[u8; 512], company: Company) -> Result<Record, u16>
     if Day::read(field_of(bytes, Field::ExtractDate)).is_none() {
         return Err(107);
     }
-    if House::read(field_of(bytes, Field::HouseNumber)).is_none() {
+    let addressed = sends_address(byte_of(bytes, Field::Function));
+    if addressed && House::read(field_of(bytes, Field::HouseNumber)).is_none() {
         return Err(103);
     }
-    if !is_class_of_service(byte_of(bytes, Field::ClassOfService)) {
+    if addressed && !is_class_of_service(byte_of(bytes, Field::ClassOfService)) {
         return Err(104);
     }
-    if !is_type_of_service(byte_of(bytes, Field::TypeOfService)) {
+    if addressed && !is_type_of_service(byte_of(bytes, Field::TypeOfService)) {
         return Err(105);
     }
     Ok(Record { bytes: *bytes })
@@ -168,6 +165,13 @@ fn is_function(byte: u8) -> bool
     ensures { result ≡ is_function byte }
 {
     byte == b'I' || byte == b'C' || byte == b'D' || byte == b'U' || byte == b'M'
+}
+
+// Whether records of this function send an address.
+fn sends_address(function: u8) -> bool
+    ensures { result ≡ sends_address function }
+{
+    function == b'I' || function == b'C' || function == b'M'
 }
 
 // Whether the byte is a class of service.

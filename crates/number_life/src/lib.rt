@@ -12,3 +12,6 @@ pub use function::Function;
 pub use life::judge;
 pub use row::Row;
 pub use standing::Standing;
+
+#[cfg(test)]
+mod tests;

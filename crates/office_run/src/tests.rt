@@ -98,54 +98,156 @@ fn run(
     Ok(Ended { status, sink })
 }
 
-const ENTRY_BY_ENTRY: &[u8] = b"READ FILE ABC01 1 2 0
+const ENTRY_BY_ENTRY: &[u8] = b"READ FILE ABC01 1 3 0
 BOOKED 1 0
 BOOKED 2 0
-BOOKED 3 199
-COMPLETE ABC01 1 2 1
-COMPLETE ABC01 1 2 1
+BOOKED 3 0
+BOOKED 4 313
+COMPLETE ABC01 1 3 1
+COMPLETE ABC01 1 3 1
 ERRORS 1536
 ";
 
 const READ_AGAIN: &[u8] = b"
-ANSWER 3 101
+ANSWER 4 103
 TN 3035550100 CLASS 1 TYPE 0
 NAME JOHN SMITH
 ADDR 100 MAIN ST
 CITY DENVER CO
 LOC
-ESN CO ABC01 LOCKED
-READ FILE ABC01 1 2 3
-COMPLETE ABC01 1 2 1
+ESN CO ABC01 UNLOCKED
+READ FILE ABC01 1 3 4
+COMPLETE ABC01 1 3 1
 ERRORS 1536
 ";
 
 const NO_RECORD: &[u8] = b"
-ANSWER 3 30
+ANSWER 4 30
 TN 3035550199 NO RECORD FOUND
 ";
 
-// A file of an insert and a change: the change is refused at this stage. Its entries are booked one by
-// one, the reply has the error file, and the file again gets the same reply and books nothing.
+// A file of an insert, an unlocking and a change, which is refused since the number is unlocked. Its
+// entries are booked one by one, the reply has the error file, and the file again gets the same reply
+// and books nothing.
 #[test]
 fn file_entry_by_entry(rt: HostRuntime) -> Result<(), Fail> {
     let insert = record(b"I3035550100", b"100");
-    let change = record(b"C3035550100", b"100");
-    let file = [header(b'1'), insert, change, trailer(b'2')];
+    let unlock = record(b"U3035550100", b"   ");
+    let change = record(b"C3035550100", b"102");
+    let file = [header(b'1'), insert, unlock, change, trailer(b'3')];
     let mut script = Vec::new(rt.alloc());
     add_file(rt.alloc(), &mut script, &file)?;
-    script.extend_from_slice(b"NEXT\nNEXT\nNEXT\nNEXT\nBATCH\nASK a 1 3035550100 3\n")?;
+    script.extend_from_slice(b"NEXT\nNEXT\nNEXT\nNEXT\nNEXT\nBATCH\nASK a 1 3035550100 4\n")?;
     add_file(rt.alloc(), &mut script, &file)?;
-    script.extend_from_slice(b"BATCH\nASK a 1 3035550199 3")?;
+    script.extend_from_slice(b"BATCH\nASK a 1 3035550199 4")?;
     let ended = run(rt.alloc(), &script, &[], &[])?;
     let mut refused = change;
-    put(&mut refused, 509, b"199");
+    put(&mut refused, 509, b"313");
     let errors = [header(b'1'), refused, trailer(b'1')];
     let mut expected = ENTRY_BY_ENTRY.to_vec(rt.alloc())?;
     add_records(&mut expected, &errors)?;
     expected.extend_from_slice(READ_AGAIN)?;
     add_records(&mut expected, &errors)?;
     expected.extend_from_slice(NO_RECORD)?;
+    assert_eq!(rt; ended.status, Status::Done);
+    assert_eq!(rt; ended.sink.bytes(), expected.as_slice());
+    Ok(())
+}
+
+// A company's file of one record, and the code that the record gets.
+#[derive(Clone, Copy)]
+struct SmallFile {
+    company: [u8; 5],
+    cycle: u8,
+    function: u8,
+    code: u16,
+}
+
+fn sent(company: &[u8; 5], cycle: u8, function: u8, code: u16) -> SmallFile {
+    SmallFile {
+        company: *company,
+        cycle,
+        function,
+        code,
+    }
+}
+
+// Adds the commands that read the file and book its opening and its record.
+fn add_small_file(alloc: Global, script: &mut Vec<u8>, file: &SmallFile) -> Result<(), Fail> {
+    let company = file.company;
+    let mut first = header(file.cycle);
+    let mut only = record(b"I3035550100", b"100");
+    let mut last = trailer(b'1');
+    only[0] = file.function;
+    put(&mut first, 10, &company);
+    put(&mut only, 261, &company);
+    put(&mut last, 10, &company);
+    add_file(alloc, script, &[first, only, last])?;
+    script.extend_from_slice(b"NEXT\nNEXT\n")?;
+    Ok(())
+}
+
+// Adds what these commands print, where so many entries are booked before them.
+fn add_told(alloc: Global, told: &mut Vec<u8>, file: &SmallFile, booked: usize) -> Result<(), Fail>
+    requires { booked ≤ 1000 }
+{
+    let company = file.company;
+    told.extend_from_slice(b"READ FILE ")?;
+    told.extend_from_slice(&company)?;
+    told.extend_from_slice(&[b' ', file.cycle])?;
+    let entries = format!(in alloc;
+        " 1 0\nBOOKED {} 0\nBOOKED {} {}\n",
+        booked + 1,
+        booked + 2,
+        file.code
+    )?;
+    told.extend_from_slice(entries.as_bytes())?;
+    Ok(())
+}
+
+const MOVED: &[u8] = b"ANSWER 8 101
+TN 3035550100 CLASS 1 TYPE 0
+NAME JOHN SMITH
+ADDR 100 MAIN ST
+CITY DENVER CO
+LOC
+ESN CO XYZ02 LOCKED
+";
+
+// A number moves from a donor company to a recipient company, and what either may do to it before and
+// after.
+#[test]
+fn a_number_moves(rt: HostRuntime) -> Result<(), Fail> {
+    let files = [
+        sent(b"ABC01", b'1', b'I', 0),
+        sent(b"ABC01", b'2', b'U', 0),
+        sent(b"ABC01", b'3', b'C', 313),
+        sent(b"XYZ02", b'1', b'M', 0),
+        sent(b"ABC01", b'4', b'M', 311),
+        sent(b"ABC01", b'5', b'C', 304),
+        sent(b"XYZ02", b'2', b'U', 0),
+        sent(b"XYZ02", b'3', b'M', 0),
+        sent(b"XYZ02", b'4', b'U', 0),
+        sent(b"XYZ02", b'5', b'U', 309),
+        sent(b"XYZ02", b'6', b'D', 313),
+        sent(b"ABC01", b'6', b'D', 306),
+        sent(b"XYZ02", b'7', b'M', 0),
+        sent(b"XYZ02", b'8', b'D', 0),
+        sent(b"XYZ02", b'9', b'U', 307),
+    ];
+    let mut script = Vec::new(rt.alloc());
+    let mut expected = Vec::new(rt.alloc());
+    for (i, file) in files.iter().enumerate() {
+        add_small_file(rt.alloc(), &mut script, file)?;
+        add_told(rt.alloc(), &mut expected, file, 2 * i)?;
+        if i == 3 {
+            script.extend_from_slice(b"ASK a 1 3035550100 8\n")?;
+            expected.extend_from_slice(MOVED)?;
+        }
+    }
+    script.extend_from_slice(b"ASK a 1 3035550100 30\n")?;
+    expected.extend_from_slice(b"ANSWER 30 30\nTN 3035550100 NO RECORD FOUND\n")?;
+    let ended = run(rt.alloc(), &script, &[], &[])?;
     assert_eq!(rt; ended.status, Status::Done);
     assert_eq!(rt; ended.sink.bytes(), expected.as_slice());
     Ok(())

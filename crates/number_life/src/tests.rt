@@ -1,0 +1,92 @@
+//! The life table, cell by cell, against answers that were written down apart from it.
+ghost use Rattle.std.specs.Prelude.{◌+◌, ◌≤◌, length};
+
+use crate::{LifeAct, Row, Standing, judge};
+use ali_base::{Company, Day};
+use ali_record::{Record, read_record};
+
+// Writes a text over the columns from `column` on, counted from 1.
+fn put(bytes: &mut [u8; 512], column: usize, text: &[u8])
+    requires { (1 ≤ column) × (column + length text.now ≤ 513) }
+{
+    bytes[column - 1..column - 1 + text.len()].copy_from_slice(text);
+}
+
+// The record of a company for one number, with this function.
+fn record(function: u8, company: &[u8; 5]) -> Option<Record> {
+    let mut bytes = [b' '; 512];
+    bytes[0] = function;
+    put(&mut bytes, 2, b"3035550100");
+    put(&mut bytes, 220, b"10");
+    put(&mut bytes, 251, b"010224");
+    put(&mut bytes, 261, company);
+    put(&mut bytes, 512, b"*");
+    read_record(&bytes, Company::read(company)?).ok()
+}
+
+// The row of the number where it stands so for ABC01.
+fn row(standing: Standing) -> Option<Row> {
+    let own = record(b'I', b"ABC01")?;
+    let others = record(b'I', b"XYZ02")?;
+    let day = Day::read(b"123123");
+    match standing {
+        Standing::Absent => None,
+        Standing::OwnLocked => Some(Row {
+            rec: own,
+            unlocked: None,
+        }),
+        Standing::OwnUnlocked => Some(Row {
+            rec: own,
+            unlocked: day,
+        }),
+        Standing::OthersLocked => Some(Row {
+            rec: others,
+            unlocked: None,
+        }),
+        Standing::OthersUnlocked => Some(Row {
+            rec: others,
+            unlocked: day,
+        }),
+    }
+}
+
+// What a record of ABC01 does to a number that stands so.
+fn judged(function: u8, standing: Standing) -> Option<Result<LifeAct, u16>> {
+    let sent = record(function, b"ABC01")?;
+    Some(judge(row(standing).as_ref(), &sent))
+}
+
+const STANDINGS: [Standing; 5] = [
+    Standing::Absent,
+    Standing::OwnLocked,
+    Standing::OwnUnlocked,
+    Standing::OthersLocked,
+    Standing::OthersUnlocked,
+];
+
+const STORED: Result<LifeAct, u16> = Ok(LifeAct::Store);
+
+const REMOVED: Result<LifeAct, u16> = Ok(LifeAct::Remove);
+
+// In each row of the table the answers stand in the order of STANDINGS.
+#[test]
+fn life_table(rt: HostRuntime) {
+    let day = Day::read(b"010224").expect(&rt, "a day");
+    let unlock = LifeAct::Unlock(day);
+    let table = [
+        (b'I', [STORED, Err(301), Err(301), Err(302), Err(302)]),
+        (b'C', [Err(303), STORED, Err(313), Err(304), Err(304)]),
+        (b'D', [Err(305), REMOVED, Err(313), Err(306), Err(306)]),
+        (b'U', [Err(307), Ok(unlock), Err(309), Err(308), Err(308)]),
+        (b'M', [Err(310), STORED, STORED, Err(311), STORED]),
+    ];
+    for (function, answers) in &table {
+        for (standing, answer) in STANDINGS.iter().zip(answers.iter()) {
+            assert_eq!(rt;
+                judged(*function, *standing),
+                Some(*answer),
+                "{function} {standing:?}"
+            );
+        }
+    }
+}
