@@ -30,10 +30,14 @@ abbrev pub others : Option CivilDay → Standing
 others None = OthersLocked
 others (Some day) = OthersUnlocked
 
--- the row is the company's own where its record has the same company
+-- the owner of a row is the company of its record
+abbrev pub owner : Row → List ℕ
+owner row = field_of row.rec field.Company
+
+-- how a number that has this row or none stands for a company
 abbrev pub standing_of : Option Row → List ℕ → Standing
 standing_of None company = Absent
-standing_of (Some row) company = if bytes_eq (field_of row.rec field.Company) company then own row.unlocked else others row.unlocked
+standing_of (Some row) company = if bytes_eq (owner row) company then own row.unlocked else others row.unlocked
 
 -- the table: the act, or the code of the refusal; day is the extract date of the record
 abbrev pub life : Function → Standing → CivilDay → Result LifeAct ℕ

@@ -5,3 +5,4 @@ pub mod Positions
 pub mod Standings
 pub mod KeptCodes
 pub mod Rooms
+pub mod CompanyLock

@@ -1,11 +1,20 @@
 //! Laws of the booked history.
-ghost use Rattle.std.specs.Prelude.{◌≡◌, ℕ, List, ◌++◌, AllPairs, Ok};
+ghost use Rattle.std.specs.Prelude.{◌≡◌, ℕ, List, ◌++◌, AllPairs, Ok, Some, None, IsSome};
+ghost use Rattle.std.specs.FinMap.{get};
+ghost use Rattle.ali_record.specs.Layout.{byte_of};
+ghost use Rattle.ali_record.specs.declared.field.Field.TheVariants.{Function};
+ghost use Rattle.number_life.specs.declared.function.Function.TheVariants.{Migrate};
+ghost use Rattle.number_life.specs.declared.row.Row.{Row};
+ghost use Rattle.number_life.specs.NumberLife.{owner, function_of};
 ghost use Rattle.sequence_once.specs.KeptCycles.{codes_of};
 ghost use Rattle.sequence_once.specs.CycleStanding.{standing_of};
 ghost use Rattle.sequence_once.specs.declared.standing.Standing.TheVariants.{Complete};
 ghost use Rattle.office_entry.specs.declared.entry.Entry.{Entry};
+ghost use Rattle.office_entry.specs.declared.entry.Entry.TheVariants.{Line};
 ghost use Rattle.office_state.specs.declared.limits.Limits.{Limits};
 ghost use Rattle.office_state.specs.History.{IsLegal, Repeats, state};
+ghost use Rattle.office_state.specs.OfficeState.{State};
+ghost use Rattle.office_state.specs.Verdict.{after};
 
 /// In a legal history no cycle of a company is opened twice, and no line of a cycle is booked twice.
 pub fn bookings_are_once()
@@ -19,4 +28,19 @@ pub fn finished_cycles_keep_their_codes()
         → standing_of (state limits history).cycles company cycle digest ≡ Ok Complete
         → standing_of (state limits (history ++ more)).cycles company cycle digest ≡ Ok Complete
         → codes_of company cycle (state limits (history ++ more)).cycles.kept ≡ codes_of company cycle (state limits history).cycles.kept }
+{}
+
+/// The company lock: a locked row stays as it is, whatever the files of other companies have.
+pub fn locked_rows_are_their_owners()
+    ensures { (s : State) (tn : List ℕ) (row : Row) (company : List ℕ) (cycle line : ℕ) (bytes : List ℕ)
+        → get s.table tn ≡ Some row → row.unlocked ≡ None → (owner row ≡ company → ⊥)
+        → get (after s (Line company cycle line bytes)).table tn ≡ Some row }
+{}
+
+/// A row gets another owner only by a migrate in that company's file, and only where it was unlocked; it
+/// is locked then.
+pub fn owners_change_by_migrate()
+    ensures { (s : State) (tn : List ℕ) (old new : Row) (company : List ℕ) (cycle line : ℕ) (bytes : List ℕ)
+        → get s.table tn ≡ Some old → get (after s (Line company cycle line bytes)).table tn ≡ Some new → (owner new ≡ owner old → ⊥)
+        → IsSome old.unlocked × (function_of (byte_of bytes Function) ≡ Migrate) × (owner new ≡ company) × (new.unlocked ≡ None) }
 {}

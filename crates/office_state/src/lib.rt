@@ -9,7 +9,10 @@ mod office;
 mod verdict;
 
 pub use due_fault::DueFault;
-pub use laws::{bookings_are_once, finished_cycles_keep_their_codes};
+pub use laws::{
+    bookings_are_once, finished_cycles_keep_their_codes, locked_rows_are_their_owners,
+    owners_change_by_migrate,
+};
 pub use limits::Limits;
 pub use office::{ApplyFault, Office};
 pub use verdict::Verdict;

@@ -1,0 +1,7 @@
+use Rattle.office_state.specs.Verdict.{after}
+use Rattle.office_state.proofs.CompanyLock.{locked_stays}
+use Rattle.office_state.proofs.laws.locked_rows_are_their_owners.Goals as goal
+
+pub returns : goal.returns
+unfolding after
+returns c = λ s tn row company cycle line bytes held locked differ. locked_stays s tn row company bytes held locked differ
