@@ -17,3 +17,4 @@ pub mod Parity
 pub mod StreetKey
 pub mod StreetGuide
 pub mod Placement
+pub mod Editors

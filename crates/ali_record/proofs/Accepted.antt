@@ -1,5 +1,5 @@
 -- What reading says of a record that it accepts.
-use Rattle.std.proofs.Common.{◌≡◌, ℕ, ◌<◌, ◌==◌, ◌&&◌, Bool, true, false, List, [], ◌∷◌, length, refl, ap, ◌∙◌, not, cond, arith, Option, Some, None, is_none, IsSome, if◌then◌else◌}
+use Rattle.std.proofs.Common.{◌≡◌, ℕ, ◌<◌, ◌==◌, ◌&&◌, Bool, true, false, List, [], ◌∷◌, length, refl, ap, sym, ◌∙◌, not, cond, arith, Option, Some, None, is_none, IsSome, if◌then◌else◌}
 use Rattle.std.specs.List.{AllByRecursion, list_all}
 use Rattle.std.specs.Char.{is_ascii_digit}
 use Rattle.std.specs.Str.{bytes_eq}
@@ -115,6 +115,10 @@ accepted-printed b h = not_false (list_all is_printable b) (accepted-none b h).1
 pub accepted-house : (b : List ℕ) → IsAccepted b → (sends_address (byte_of b Function) && is_none (house_of (field_of b HouseNumber))) ≡ false
 unfolding conditions
 accepted-house b h = (accepted-none b h).1.1.1.1.1.1.0
+
+-- the house number of an address is read
+pub accepted-address : (b : List ℕ) → IsAccepted b → sends_address (byte_of b Function) ≡ true → IsSome (house_of (field_of b HouseNumber))
+accepted-address b h sends = some_of (house_of (field_of b HouseNumber)) (sym (ap (λ x. x && is_none (house_of (field_of b HouseNumber))) sends) ∙ accepted-house b h)
 
 -- a house number that is read breaks no condition
 pub house_read : (b : Bool) (house : Option ℕ) → IsSome house → (b && is_none house) ≡ false

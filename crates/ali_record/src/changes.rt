@@ -19,7 +19,8 @@ impl Record {
 
     /// Writes an emergency service number over its columns, in five digits. All other columns stay.
     pub fn set_esn(&mut self, e: Esn)
-        ensures { self.new ≡ with_esn self.old e }
+        ensures written { self.new ≡ with_esn self.old e }
+        ensures size { length self.new ≡ 512 }
     {
         prove!(e.number() <= 99_999);
         write_field(&mut self.bytes, Field::Esn, &e.text());

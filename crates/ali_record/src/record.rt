@@ -1,5 +1,5 @@
 //! Reading a record.
-ghost use Rattle.std.specs.Prelude.{◌≡◌, ◌≢◌, ℕ, ◌+◌, ◌-◌, ◌≤◌, List, length, Some, MatchResult};
+ghost use Rattle.std.specs.Prelude.{◌≡◌, ◌≢◌, ℕ, ◌+◌, ◌-◌, ◌≤◌, List, length, true, Some, IsSome, MatchResult};
 ghost use Rattle.ali_base.specs.Columns.{trimmed, is_blank};
 ghost use Rattle.ali_base.specs.HouseNumber.{house_of};
 ghost use Rattle.ali_base.specs.CivilDay.{day_of};
@@ -106,6 +106,14 @@ impl Record {
         ensures { result ≡ byte_of self.now Field.Function }
     {
         byte_of(&self.bytes, Field::Function)
+    }
+
+    /// Whether its function sends an address, as I, C and M do. Its house number can then be read.
+    pub fn sends_address(&self) -> bool
+        ensures value { result ≡ sends_address (byte_of self.now Field.Function) }
+        ensures house { result ≡ true → IsSome (house_of (field_of self.now Field.HouseNumber)) }
+    {
+        sends_address(byte_of(&self.bytes, Field::Function))
     }
 
     /// The telephone number.

@@ -1,12 +1,14 @@
 -- What the standing of a carrier's file says of its kept cycle, and what it is after the file's opening and after a line.
-use Rattle.std.proofs.Common.{◌≡◌, ℕ, suc, ◌+◌, ◌-◌, ◌<◌, ◌≤◌, ◌==◌, not, Bool, true, false, List, [], ◌∷◌, length, drop, get_or, Option, Some, None, option_map, unwrap_or, Result, Ok, Err, refl, ap, sym, ◌∙◌, arith, if◌then◌else◌}
+use Rattle.std.proofs.Common.{◌≡◌, ℕ, suc, ◌+◌, ◌-◌, ◌<◌, ◌≤◌, ◌==◌, not, Bool, true, false, List, [], ◌∷◌, ◌++◌, length, length-append, drop, get_or, Option, Some, None, option_map, unwrap_or, Result, Ok, Err, refl, ap, sym, ◌∙◌, subst, arith, if◌then◌else◌}
 use Rattle.std.proofs.Math.Seq.{drop-cons}
-use Rattle.std.proofs.lemmas.List.{drop_all}
+use Rattle.std.proofs.lemmas.List.{drop_all, get_or_append_left}
+use Rattle.std.proofs.lemmas.List.Elements.{All-get_or, All-tail}
 use Rattle.std.proofs.lemmas.Bool.Decides.{nat_tests}
 use Rattle.sha2.specs.Sha256.{sha256}
-use Rattle.batch_frame.specs.CarrierFile.{CarrierFile, separator_of, piece_size}
-use Rattle.batch_frame.specs.FrameFault.{file_of, found}
+use Rattle.batch_frame.specs.CarrierFile.{CarrierFile, IsRecord, separator_of, piece_size}
+use Rattle.batch_frame.specs.FrameFault.{frame_fault, file_of, found}
 use Rattle.batch_frame.proofs.Cutting.{records_in-length}
+use Rattle.batch_frame.proofs.Readings.{file_of_read}
 use Rattle.sequence_once.specs.KeptCycles.{CycleRecord, IsSound, count_of}
 use Rattle.sequence_once.specs.CycleStanding.{standing_of}
 use Rattle.sequence_once.specs.declared.standing.Standing.{Standing}
@@ -23,6 +25,15 @@ use Rattle.batch_desk.specs.JobReplies.{kept_codes}
 pub as_many : (bytes : List ℕ) → let file = file_of bytes in file.count ≡ length file.records
 unfolding file_of
 as_many bytes = sym (records_in-length (separator_of bytes) (found bytes) (drop (piece_size (separator_of bytes)) bytes))
+
+-- and each record of a file without a fault has 512 bytes
+pub record_width : (bytes : List ℕ) (line : ℕ) → frame_fault bytes ≡ None → 1 ≤ line → let file = file_of bytes in line ≤ length file.records → length (get_or file.records (line - 1) []) ≡ 512
+record_width bytes line framed low high =
+    let file = file_of bytes in
+    let parts = (file_of_read bytes framed).parts in
+    let there : line - 1 < length file.records = omega arith in
+    let among : line - 1 < length (file.records ++ file.trailer ∷ []) = omega (arith, length-append file.records (file.trailer ∷ [])) in
+    subst IsRecord (get_or_append_left file.records (file.trailer ∷ []) [] (line - 1) there) (All-get_or IsRecord (file.records ++ file.trailer ∷ []) (line - 1) [] among (All-tail IsRecord file.header (file.records ++ file.trailer ∷ []) parts.widths))
 
 -- a new file is one by its digest alone
 new_alone : (other : Bool) (digest : List ℕ) (r : Result Standing CycleFault) → with_count other digest r ≡ Ok New → r ≡ Ok New
@@ -68,6 +79,7 @@ pub record OldFile (s : State) (bytes : List ℕ) (standing : Standing) : Type 0
   pub stands : let file = file_of bytes in standing_of s.cycles file.company file.cycle (sha256 bytes) ≡ Ok standing
   pub counted : let file = file_of bytes in count_of file.company file.cycle s.cycles.kept ≡ Some file.count
 
+-- as a standing other than new says
 pub old_file : (s : State) (bytes : List ℕ) (standing : Standing) → (New ≡ standing → ⊥) → file_standing s bytes ≡ Ok standing → OldFile s bytes standing
 unfolding file_standing
 old_file s bytes standing old e =

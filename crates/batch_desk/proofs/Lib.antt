@@ -1,3 +1,5 @@
+pub mod KeptStates
 pub mod Files
+pub mod Edits
 pub mod Steps
 pub mod Replies

@@ -1,4 +1,4 @@
--- The pieces in which the reply to a complete file is put.
+-- The pieces in which the reply to a complete job is put, and that a job that is complete twice gets one reply.
 use Rattle.std.proofs.Common.{◌≡◌, ℕ, ◌==◌, not, List, [], ◌∷◌, ◌++◌, append_assoc, length, ap, sym, ◌∙◌, subst, Option, unwrap_or, Ok}
 use Rattle.std.specs.List.{count_by}
 use Rattle.std.specs.Io.KnownBytes.{Appends}
@@ -10,36 +10,41 @@ use Rattle.batch_frame.specs.FrameFault.{file_of}
 use Rattle.error_files.specs.ErrorFile.{error_file}
 use Rattle.error_files.proofs.Fronts.{part_after}
 use Rattle.sequence_once.specs.declared.standing.Standing.TheVariants.{Complete}
+use Rattle.sequence_once.specs.SerialStanding.{EditRecord, edit_of}
+use Rattle.office_entry.specs.declared.edit.Edit.{Edit as GuideEdit}
 use Rattle.office_entry.specs.declared.entry.Entry.{Entry}
 use Rattle.office_state.specs.declared.limits.Limits.{Limits}
-use Rattle.office_state.specs.OfficeState.{State}
+use Rattle.office_state.specs.OfficeState.{State, empty_state}
 use Rattle.office_state.specs.History.{IsLegal, state}
+use Rattle.office_state.proofs.Histories.{due_first, due_rest, state_more}
 use Rattle.office_state.proofs.KeptCodes.{kept_codes as kept_same}
 use Rattle.batch_desk.specs.declared.job.Job.{Job}
-use Rattle.batch_desk.specs.declared.job.Job.TheVariants.{File}
-use Rattle.batch_desk.specs.declared.reply_line.FileDone.{FileDone}
-use Rattle.batch_desk.specs.ReplyLines.{complete_line, errors_line}
+use Rattle.batch_desk.specs.declared.job.Job.TheVariants.{File, Edit}
+use Rattle.batch_desk.specs.declared.reply_line.JobDone.{JobDone}
+use Rattle.batch_desk.specs.declared.reply_line.JobDone.TheVariants as done
+use Rattle.batch_desk.specs.ReplyLines.{done_line, errors_line}
+use Rattle.batch_desk.specs.EditJobs.{edit_standing}
 use Rattle.batch_desk.specs.Jobs.{job_standing}
-use Rattle.batch_desk.specs.JobReplies.{kept_codes, done_of, job_reply}
+use Rattle.batch_desk.specs.JobReplies.{kept_codes, edit_done, done_of, done_block, job_reply}
+use Rattle.batch_desk.proofs.KeptStates.{kept_state}
+use Rattle.batch_desk.proofs.Edits.{same_edit}
 use Rattle.batch_desk.proofs.Files.{old_file}
 
 -- an error file with its length before it and the end of a line behind it
 abbrev pub sized : List ℕ → List ℕ
 sized errors = errors_line (length errors) ++ errors ++ 10 ∷ []
 
+-- the line of its length, and then the rest
 pub sized-pieces : (errors line : List ℕ) (len : ℕ) → line ≡ errors_line len → len ≡ length errors → sized errors ≡ line ++ (errors ++ 10 ∷ [])
 sized-pieces errors line len is long =
     append_assoc (errors_line (length errors)) errors (10 ∷ []) ∙ ap (λ (n : ℕ). errors_line n ++ (errors ++ 10 ∷ [])) (sym long) ∙ ap (λ (xs : List ℕ). xs ++ (errors ++ 10 ∷ [])) (sym is)
 
--- the reply is the line, and then the error file
-pub reply-pieces : (s : State) (bytes line : List ℕ) (done : FileDone) (file : CarrierFile) (codes : List ℕ) → line ≡ complete_line done → done ≡ done_of s (File bytes) → file ≡ file_of bytes → codes ≡ kept_codes s bytes → job_reply s (File bytes) ≡ line ++ sized (error_file file codes)
+-- the reply to a complete file is the line, and then the error file
+pub reply-pieces : (s : State) (job : Job) (bytes line : List ℕ) (of_job : JobDone) (file : CarrierFile) (codes : List ℕ) → job ≡ File bytes → line ≡ done_line of_job → of_job ≡ done_of s job → file ≡ file_of bytes → codes ≡ kept_codes s bytes → job_reply s job ≡ line ++ sized (error_file file codes)
 unfolding job_reply
-reply-pieces s bytes line done file codes told is parts kept =
-    let first = complete_line (done_of s (File bytes)) in
-    let errors = error_file (file_of bytes) (kept_codes s bytes) in
-    ap (λ (xs : List ℕ). xs ++ 10 ∷ []) (append_assoc first (errors_line (length errors)) errors)
-    ∙ append_assoc first (errors_line (length errors) ++ errors) (10 ∷ [])
-    ∙ ap (λ (xs : List ℕ). xs ++ sized errors) (sym (told ∙ ap complete_line is))
+reply-pieces s job bytes line of_job file codes of_file told is parts kept =
+    ap (λ (xs : List ℕ). xs ++ done_block s job) (sym (told ∙ ap done_line is))
+    ∙ ap (λ (j : Job). line ++ done_block s j) of_file
     ∙ ap (λ (f : CarrierFile). line ++ sized (error_file f (kept_codes s bytes))) (sym parts)
     ∙ ap (λ (cs : List ℕ). line ++ sized (error_file file cs)) (sym kept)
 
@@ -47,21 +52,26 @@ reply-pieces s bytes line done file codes told is parts kept =
 pub both_put : (text x y : List ℕ) (a b c : Option (List ℕ)) → text ≡ x ++ y → Appends a b x → Appends b c y → Appends a c text
 both_put text x y a b c is first second = subst (Appends a c) (sym is) (Appends-trans a b c x y first second)
 
+-- the first, and a front of the second
 pub second_part : (text x y : List ℕ) (a b c : Option (List ℕ)) → text ≡ x ++ y → Appends a b x → AppendsPart b c y → AppendsPart a c text
 second_part text x y a b c is first second = subst (AppendsPart a c) (sym is) (part_after x y a b c first second)
 
--- the reply depends on the codes that are kept for the file alone
-pub reply-same : (s later : State) (bytes : List ℕ) → kept_codes later bytes ≡ kept_codes s bytes → job_reply later (File bytes) ≡ job_reply s (File bytes)
+-- the reply to a file depends on the codes that are kept for it alone
+file_same : (s later : State) (bytes : List ℕ) → kept_codes later bytes ≡ kept_codes s bytes → job_reply later (File bytes) ≡ job_reply s (File bytes)
 unfolding job_reply
-reply-same s later bytes same =
+file_same s later bytes same =
     let of_codes : List ℕ → List ℕ = λ codes.
     let file = file_of bytes in
-    let done : FileDone = record { company = file.company; cycle = file.cycle; count = file.count; refused = count_by (λ code. not (code == 0)) codes } in
-    let errors = error_file file codes in
-    complete_line done ++ errors_line (length errors) ++ errors ++ 10 ∷ [] in
+    let told : JobDone = done.File (record { company = file.company; cycle = file.cycle; count = file.count; refused = count_by (λ code. not (code == 0)) codes }) in
+    done_line told ++ sized (error_file file codes) in
     ap of_codes same
 
--- a file that is complete twice gets one reply
+-- and that to an edit on its editor's last one
+edit_same : (s later : State) (editor serial : ℕ) (edit : GuideEdit) → edit_of editor later.edits ≡ edit_of editor s.edits → job_reply later (Edit editor serial edit) ≡ job_reply s (Edit editor serial edit)
+unfolding job_reply
+edit_same s later editor serial edit same = ap (λ (last : Option EditRecord). done_line (edit_done editor serial last) ++ []) same
+
+-- a job that is complete twice gets one reply
 pub complete_again : (limits : Limits) (history more : List Entry) (job : Job) → IsLegal limits (history ++ more) → job_standing (state limits history) job ≡ Ok Complete → job_standing (state limits (history ++ more)) job ≡ Ok Complete → job_reply (state limits (history ++ more)) job ≡ job_reply (state limits history) job
 complete_again limits history more (File bytes) legal first second =
     let old = state limits history in
@@ -69,4 +79,11 @@ complete_again limits history more (File bytes) legal first second =
     let file = file_of bytes in
     let then_stood = old_file old bytes Complete (λ h. cc) first in
     let now_stands = old_file new bytes Complete (λ h. cc) second in
-    reply-same old new bytes (ap (λ (o : Option (List ℕ)). unwrap_or o []) (kept_same limits history more file.company file.cycle (sha256 bytes) legal then_stood.stands now_stands.stands))
+    file_same old new bytes (ap (λ (o : Option (List ℕ)). unwrap_or o []) (kept_same limits history more file.company file.cycle (sha256 bytes) legal then_stood.stands now_stands.stands))
+complete_again limits history more (Edit editor serial edit) legal first second =
+    let old = state limits history in
+    let behind = state_more limits history more in
+    let kept = kept_state limits history (due_first (empty_state limits) history more legal) in
+    let due = due_rest (empty_state limits) history more legal in
+    let again = subst (λ (s : State). edit_standing s editor serial edit ≡ Ok Complete) behind second in
+    edit_same old (state limits (history ++ more)) editor serial edit (ap (λ (s : State). edit_of editor s.edits) behind ∙ same_edit old more kept due editor serial edit first again)

@@ -1,4 +1,5 @@
 pub mod FileJobs
+pub mod EditJobs
 pub mod Jobs
 pub mod ReplyLines
 pub mod JobReplies

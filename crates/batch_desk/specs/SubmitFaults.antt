@@ -1,6 +1,7 @@
--- Why a file is no job.
-use Rattle.std.specs.Prelude.{◌≡◌, ℕ, List, Some, None, Err}
+-- Why a file or an edit is no job.
+use Rattle.std.specs.Prelude.{◌≡◌, ℕ, List, Some, None, Result, Err}
 use Rattle.batch_frame.specs.FrameFault.{frame_fault}
+use Rattle.sequence_once.specs.declared.standing.Standing.{Standing}
 use Rattle.sequence_once.specs.declared.standing.CycleFault.{CycleFault}
 use Rattle.office_state.specs.OfficeState.{State}
 use Rattle.batch_desk.specs.declared.submit.SubmitFault.{SubmitFault}
@@ -8,7 +9,12 @@ use Rattle.batch_desk.specs.declared.submit.SubmitFault.TheVariants.{Frame, Due}
 use Rattle.batch_desk.specs.FileJobs.{file_standing}
 use Rattle.office_state.specs.Due.{standing_fault}
 
--- its frame has this fault, or else its standing is this fault
+-- a file: its frame has this fault, or else its standing is this fault
 abbrev pub IsSubmitFault : State → List ℕ → SubmitFault → Type 0
 IsSubmitFault s bytes (Frame fault) = frame_fault bytes ≡ Some fault
 IsSubmitFault s bytes (Due fault) = (frame_fault bytes ≡ None) × ((f : CycleFault) × (file_standing s bytes ≡ Err f) × (fault ≡ standing_fault f))
+
+-- the standing of an edit is this fault
+abbrev pub IsEditFault : Result Standing CycleFault → SubmitFault → Type 0
+IsEditFault standing (Frame fault) = ⊥
+IsEditFault standing (Due fault) = (f : CycleFault) × (standing ≡ Err f) × (fault ≡ standing_fault f)

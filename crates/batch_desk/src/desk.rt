@@ -1,6 +1,7 @@
 //! The entries of a job, one after the other, and what is told of it.
 ghost use Rattle.std.specs.Prelude.{◌≡◌, ◌==◌, ℕ, ◌≤◌, not, [], ◌∷◌, ◌++◌, length, count_by, IfOk, Ok, OnOk, OnErr};
 ghost use Rattle.std.specs.Io.KnownBytes.{Appends};
+ghost use Rattle.ali_base.specs.Editors.{IsEditor};
 ghost use Rattle.ali_base.specs.Faults.{Rose};
 ghost use Rattle.ali_base.specs.WholePuts.{AppendsPart};
 ghost use Rattle.error_files.specs.ErrorFile.{error_file};
@@ -8,18 +9,21 @@ ghost use Rattle.error_files.specs.TextPuts.{PutsText};
 ghost use Rattle.sequence_once.specs.KeptCycles.{IsSound, count_of};
 ghost use Rattle.sequence_once.specs.CycleStanding.{standing_of};
 ghost use Rattle.sequence_once.specs.declared.standing.Standing.TheVariants.{Complete};
+ghost use Rattle.sequence_once.specs.SerialStanding.{edit_of};
+ghost use Rattle.office_entry.specs.declared.entry.Entry.{Entry as AnyEntry};
 ghost use Rattle.office_state.specs.Due.{IsDue};
+ghost use Rattle.batch_desk.specs.EditJobs.{edit_standing, next_edit};
 ghost use Rattle.batch_desk.specs.FileJobs.{file_standing, opening, line_entry, is_other_count, with_count, next_by};
-ghost use Rattle.batch_desk.specs.Jobs.{job_standing, next_of};
+ghost use Rattle.batch_desk.specs.Jobs.{job_standing, next_of, IsReady};
 ghost use Rattle.batch_desk.specs.ReplyLines.{errors_line};
-ghost use Rattle.batch_desk.specs.JobReplies.{read_of, done_of, kept_codes, next_line, job_reply};
+ghost use Rattle.batch_desk.specs.JobReplies.{read_of, done_of, edit_done, kept_codes, next_line, job_reply};
 
 use crate::job::{FileJob, Job};
-use crate::reply_line::{FileDone, FileRead, complete_line, errors_line};
-use ali_base::{Sink, SinkFault, put_all};
+use crate::reply_line::{EditDone, FileDone, FileRead, JobDone, JobRead, done_line, errors_line};
+use ali_base::{Editor, Serial, Sink, SinkFault, put_all};
 use batch_frame::FileView;
 use error_files::{ErrorsEnd, errors_len, write_errors};
-use office_entry::Entry;
+use office_entry::{Edit, Entry};
 use office_state::{DueFault, Office};
 use sequence_once::{CycleFault, Standing};
 
@@ -32,38 +36,43 @@ use sequence_once::{CycleFault, Standing};
 pub fn next_entry(office: &Office, job: &Job) -> Result<Entry, DueFault>
     ensures exact { result ≡ next_of office.now.state job.now }
     ensures due { IfOk result (λ e. IsDue office.now.state e) }
-    ensures sound { IsSound office.now.state.cycles }
+    ensures ready { IsReady office.now.state job.now }
 {
     match job {
         Job::File(file) => next_of_file(office, file),
+        Job::Edit {
+            editor,
+            serial,
+            edit,
+        } => next_of_edit(office, *editor, *serial, edit),
     }
 }
 
-/// What is told of a file that was read.
-pub fn file_read(office: &Office, job: &Job) -> FileRead
+/// What is told of a job that was read.
+pub fn job_read(office: &Office, job: &Job) -> JobRead
     ensures { result ≡ read_of office.now.state job.now }
 {
-    let Job::File(job) = job;
-    let file = job.file();
-    FileRead {
-        company: file.company(),
-        cycle: file.cycle(),
-        count: file.count(),
-        next: next_line(file.count(), file_standing(office, job)),
+    match job {
+        Job::File(job) => JobRead::File(read_of_file(office, job)),
+        Job::Edit { editor, serial, .. } => JobRead::Edit {
+            editor: *editor,
+            serial: *serial,
+        },
     }
 }
 
-/// What is told of a file that is complete.
-pub fn file_done(office: &Office, job: &Job) -> FileDone
+/// What is told of a job that is complete.
+pub fn job_done(office: &Office, job: &Job) -> JobDone
     requires { job_standing office.now.state job.now ≡ Ok Complete }
     ensures { result ≡ done_of office.now.state job.now }
 {
     match job {
-        Job::File(job) => done_of_file(office, job),
+        Job::File(job) => JobDone::File(done_of_file(office, job)),
+        Job::Edit { editor, serial, .. } => JobDone::Edit(done_of_edit(office, *editor, *serial)),
     }
 }
 
-/// Puts the reply to a complete job: its line, and the error file with its length before it.
+/// Puts the reply to a complete job: its line, and of a file the error file with its length before it.
 pub fn desk_reply<K: Sink>(office: &Office, job: &Job, sink: &mut K) -> ErrorsEnd
     requires { job_standing office.now.state job.now ≡ Ok Complete }
     ensures bytes { PutsText (K.contents sink.old) (K.contents sink.new) (job_reply office.now.state job.now) result }
@@ -140,6 +149,29 @@ fn next_of_file(office: &Office, job: &FileJob) -> Result<Entry, DueFault>
     }
 }
 
+// The entry of an edit that may be booked next.
+fn next_of_edit(
+    office: &Office,
+    editor: Editor,
+    serial: Serial,
+    edit: &Edit,
+) -> Result<Entry, DueFault>
+    ensures exact { result ≡ next_edit (AnyEntry.Edit editor serial edit.now) (edit_standing office.now.state editor serial edit.now) }
+    ensures due { IfOk result (λ e. IsDue office.now.state e) }
+    ensures place { length office.now.state.edits ≡ 64 }
+    ensures editor { IsEditor editor }
+{
+    match office.edit_standing(editor, serial, &edit.digest()) {
+        Ok(Standing::New) => Ok(Entry::Edit {
+            editor,
+            serial,
+            edit: *edit,
+        }),
+        Ok(Standing::Resume(_)) | Ok(Standing::Complete) => Err(DueFault::Complete),
+        Err(fault) => Err(DueFault::of(fault)),
+    }
+}
+
 // The opening of a file's cycle.
 fn opening(job: &FileJob) -> Entry
     ensures { result ≡ opening job.now }
@@ -179,10 +211,39 @@ fn next_line(count: u32, standing: Result<Standing, CycleFault>) -> u32
     }
 }
 
+// What is told of a file that was read.
+fn read_of_file(office: &Office, job: &FileJob) -> FileRead
+    ensures { JobRead.File result ≡ read_of office.now.state (Job.File job.now) }
+{
+    let file = job.file();
+    FileRead {
+        company: file.company(),
+        cycle: file.cycle(),
+        count: file.count(),
+        next: next_line(file.count(), file_standing(office, job)),
+    }
+}
+
+// What is told of a complete edit.
+fn done_of_edit(office: &Office, editor: Editor, serial: Serial) -> EditDone
+    ensures { JobDone.Edit result ≡ edit_done editor serial (edit_of editor office.now.state.edits) }
+{
+    let (code, detail) = match office.edit_kept(editor) {
+        Some((_, verdict)) => (verdict.code, verdict.detail),
+        None => (0, 0),
+    };
+    EditDone {
+        editor,
+        serial,
+        code,
+        detail,
+    }
+}
+
 // What is told of a complete file.
 fn done_of_file(office: &Office, job: &FileJob) -> FileDone
     requires { file_standing office.now.state job.now ≡ Ok Complete }
-    ensures { result ≡ done_of office.now.state (Job.File job.now) }
+    ensures { JobDone.File result ≡ done_of office.now.state (Job.File job.now) }
 {
     let file = job.file();
     FileDone {
@@ -213,6 +274,7 @@ fn count_refused(codes: &[u16]) -> u32
 }
 
 // Puts the reply to a complete job.
+#[tactic(auto, unfolding(crate::specs::JobReplies::job_reply))]
 fn put_reply<K: Sink>(office: &Office, job: &Job, sink: &mut K) -> Result<(), SinkFault>
     requires { job_standing office.now.state job.now ≡ Ok Complete }
     ensures whole { OnOk result (Appends (K.contents sink.old) (K.contents sink.new) (job_reply office.now.state job.now)) }
@@ -220,21 +282,11 @@ fn put_reply<K: Sink>(office: &Office, job: &Job, sink: &mut K) -> Result<(), Si
     ensures later { K.faults sink.old ≤ K.faults sink.new }
     ensures cause { OnErr result (Rose (K.faults sink.old) (K.faults sink.new)) }
 {
+    put_all(sink, done_line(&job_done(office, job)).bytes())?;
     match job {
-        Job::File(job) => put_file_reply(office, job, sink),
+        Job::File(job) => put_sized_errors(&job.file(), kept_codes(office, job), sink),
+        Job::Edit { .. } => Ok(()),
     }
-}
-
-// Puts the reply to a complete file.
-fn put_file_reply<K: Sink>(office: &Office, job: &FileJob, sink: &mut K) -> Result<(), SinkFault>
-    requires { file_standing office.now.state job.now ≡ Ok Complete }
-    ensures whole { OnOk result (Appends (K.contents sink.old) (K.contents sink.new) (job_reply office.now.state (Job.File job.now))) }
-    ensures part { OnErr result (AppendsPart (K.contents sink.old) (K.contents sink.new) (job_reply office.now.state (Job.File job.now))) }
-    ensures later { K.faults sink.old ≤ K.faults sink.new }
-    ensures cause { OnErr result (Rose (K.faults sink.old) (K.faults sink.new)) }
-{
-    put_all(sink, complete_line(&done_of_file(office, job)).bytes())?;
-    put_sized_errors(&job.file(), kept_codes(office, job), sink)
 }
 
 // Puts the error file with its length before it and the end of a line behind it.

@@ -4,7 +4,9 @@ ghost use Rattle.sha2.specs.Sha256.{sha256};
 ghost use Rattle.batch_frame.specs.FrameFault.{frame_fault, file_of, IsRead};
 ghost use Rattle.batch_frame.specs.Told.{frame_of};
 
+use ali_base::{Editor, Serial};
 use batch_frame::{FileView, Frame, FrameFault, read_file};
+use office_entry::Edit;
 use sequence_once::digest;
 use std::marker::Model;
 
@@ -13,6 +15,12 @@ use std::marker::Model;
 pub enum Job {
     /// A carrier's file.
     File(FileJob),
+    /// An editor's edit of the street guide.
+    Edit {
+        editor: Editor,
+        serial: Serial,
+        edit: Edit,
+    },
 }
 
 /// A carrier's file without a fault of its frame, what it told, and its digest. The frame is read and

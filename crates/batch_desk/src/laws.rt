@@ -7,7 +7,7 @@ ghost use Rattle.office_entry.specs.declared.entry.Entry.{Entry};
 ghost use Rattle.office_state.specs.declared.limits.Limits.{Limits};
 ghost use Rattle.office_state.specs.History.{IsLegal, state};
 ghost use Rattle.batch_desk.specs.declared.job.Job.{Job};
-ghost use Rattle.batch_desk.specs.Jobs.{job_standing, entries_left};
+ghost use Rattle.batch_desk.specs.Jobs.{IsJob, job_standing, entries_left};
 ghost use Rattle.batch_desk.specs.JobReplies.{job_reply};
 
 /// A complete job that is read again while it is complete has nothing left to be booked, and gets the
@@ -25,9 +25,9 @@ pub fn complete_jobs_repeat()
 /// complete.
 pub fn jobs_can_be_completed()
     ensures legal { (limits : Limits) (history : List Entry) (job : Job) (standing : Standing)
-        → IsLegal limits history → job_standing (state limits history) job ≡ Ok standing
+        → IsJob job → IsLegal limits history → job_standing (state limits history) job ≡ Ok standing
         → IsLegal limits (history ++ entries_left (state limits history) job) }
     ensures complete { (limits : Limits) (history : List Entry) (job : Job) (standing : Standing)
-        → IsLegal limits history → job_standing (state limits history) job ≡ Ok standing
+        → IsJob job → IsLegal limits history → job_standing (state limits history) job ≡ Ok standing
         → job_standing (state limits (history ++ entries_left (state limits history) job)) job ≡ Ok Complete }
 {}

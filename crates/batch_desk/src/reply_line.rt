@@ -2,9 +2,9 @@
 ghost use Rattle.std.specs.Prelude.{◌≡◌, ◌≤◌, ◌+◌, length};
 ghost use Rattle.ali_base.specs.Columns.{trimmed};
 ghost use Rattle.text_line.specs.WordLines.{with_word};
-ghost use Rattle.batch_desk.specs.ReplyLines.{frame_line, refusal_line, read_line, complete_line, errors_line};
+ghost use Rattle.batch_desk.specs.ReplyLines.{frame_line, refusal_line, read_line, done_line, errors_line};
 
-use ali_base::{Company, Cycle, trimmed};
+use ali_base::{Company, Cycle, Editor, Serial, trimmed};
 use batch_frame::FrameFault;
 use sequence_once::CycleFault;
 use text_line::Line;
@@ -29,6 +29,31 @@ pub struct FileDone {
     pub count: u32,
     /// How many of them were refused.
     pub refused: u32,
+}
+
+/// What is told of an edit that is complete.
+#[derive(Clone, Copy, Debug, PartialEq, Eq)]
+pub struct EditDone {
+    pub editor: Editor,
+    pub serial: Serial,
+    /// 0 where it was carried out.
+    pub code: u16,
+    /// What there is to say of it beside its code.
+    pub detail: u64,
+}
+
+/// What is told of a job that was read.
+#[derive(Clone, Copy, Debug, PartialEq, Eq)]
+pub enum JobRead {
+    File(FileRead),
+    Edit { editor: Editor, serial: Serial },
+}
+
+/// What is told of a job that is complete.
+#[derive(Clone, Copy, Debug, PartialEq, Eq)]
+pub enum JobDone {
+    File(FileDone),
+    Edit(EditDone),
 }
 
 /// The line for the first fault of a file's frame.
@@ -74,7 +99,7 @@ pub fn frame_line(fault: &FrameFault) -> Line
     line
 }
 
-/// The line for the fault of a file's standing.
+/// The line for the fault of the standing of a file or an edit.
 pub fn refusal_line(fault: &CycleFault) -> Line
     ensures { result ≡ refusal_line fault.now }
 {
@@ -104,31 +129,51 @@ pub fn refusal_line(fault: &CycleFault) -> Line
     line
 }
 
-/// The line for a file that was read.
-pub fn read_line(file: &FileRead) -> Line
-    ensures { result ≡ read_line file.now }
+/// The line for a job that was read.
+pub fn read_line(job: &JobRead) -> Line
+    ensures { result ≡ read_line job.now }
 {
     let mut line = Line::new();
     line.add_word(b"READ");
-    line.add_word(b"FILE");
-    add_company(&mut line, file.company);
-    line.add_number(u64::from(file.cycle.number()));
-    line.add_number(u64::from(file.count));
-    line.add_number(u64::from(file.next));
+    match job {
+        JobRead::File(file) => {
+            line.add_word(b"FILE");
+            add_company(&mut line, file.company);
+            line.add_number(u64::from(file.cycle.number()));
+            line.add_number(u64::from(file.count));
+            line.add_number(u64::from(file.next));
+        }
+        JobRead::Edit { editor, serial } => {
+            line.add_word(b"EDIT");
+            line.add_number(u64::from(editor.number()));
+            line.add_number(u64::from(serial.number()));
+        }
+    }
     line.end();
     line
 }
 
-/// The line for a file that is complete.
-pub fn complete_line(file: &FileDone) -> Line
-    ensures { result ≡ complete_line file.now }
+/// The line for a job that is complete.
+pub fn done_line(job: &JobDone) -> Line
+    ensures { result ≡ done_line job.now }
 {
     let mut line = Line::new();
-    line.add_word(b"COMPLETE");
-    add_company(&mut line, file.company);
-    line.add_number(u64::from(file.cycle.number()));
-    line.add_number(u64::from(file.count));
-    line.add_number(u64::from(file.refused));
+    match job {
+        JobDone::File(file) => {
+            line.add_word(b"COMPLETE");
+            add_company(&mut line, file.company);
+            line.add_number(u64::from(file.cycle.number()));
+            line.add_number(u64::from(file.count));
+            line.add_number(u64::from(file.refused));
+        }
+        JobDone::Edit(edit) => {
+            line.add_word(b"EDITED");
+            line.add_number(u64::from(edit.editor.number()));
+            line.add_number(u64::from(edit.serial.number()));
+            line.add_number(u64::from(edit.code));
+            line.add_number(edit.detail);
+        }
+    }
     line.end();
     line
 }

@@ -1,23 +1,26 @@
-//! Files that become jobs.
+//! Files and edits that become jobs.
 ghost use Rattle.std.specs.Prelude.{◌≡◌, None, MatchResult, IsOk};
 ghost use Rattle.sha2.specs.Sha256.{sha256};
 ghost use Rattle.batch_frame.specs.FrameFault.{frame_fault, file_of};
 ghost use Rattle.batch_frame.specs.Told.{frame_of};
 ghost use Rattle.batch_desk.specs.FileJobs.{file_standing};
-ghost use Rattle.batch_desk.specs.SubmitFaults.{IsSubmitFault};
+ghost use Rattle.batch_desk.specs.SubmitFaults.{IsSubmitFault, IsEditFault};
+ghost use Rattle.batch_desk.specs.EditJobs.{edit_standing};
 
 use crate::desk::view_standing;
 use crate::job::{FileJob, Job};
+use ali_base::{Editor, Serial};
 use batch_frame::{Frame, FrameFault, read_file};
+use office_entry::Edit;
 use office_state::{DueFault, Office};
 use sequence_once::digest;
 
-/// Why a file is no job.
+/// Why a file or an edit is no job.
 #[derive(Clone, Copy, Debug, PartialEq, Eq)]
 pub enum SubmitFault {
-    /// The first fault of its frame.
+    /// The first fault of a file's frame.
     Frame(FrameFault),
-    /// Its cycle may not be opened, and is neither open nor complete with its digest.
+    /// It may not be booked next, and is neither open nor complete with its digest.
     Due(DueFault),
 }
 
@@ -39,6 +42,32 @@ pub fn submit_file(office: &Office, bytes: Vec<u8>) -> Result<Job, (Vec<u8>, Sub
             Ok(Job::File(FileJob::of_file(bytes, judged.frame, digest)))
         }
         Err(fault) => Err((bytes, fault)),
+    }
+}
+
+/// Makes a job of an editor's edit that may be booked next or is complete. Takes no memory and changes
+/// nothing.
+///
+/// # Errors
+///
+/// `Due` with the fault of its standing.
+pub fn submit_edit(
+    office: &Office,
+    editor: Editor,
+    serial: Serial,
+    edit: Edit,
+) -> Result<Job, SubmitFault>
+    ensures { MatchResult result
+        (λ job. (job ≡ Job.Edit editor serial edit) × IsOk (edit_standing office.now.state editor serial edit))
+        (λ fault. IsEditFault (edit_standing office.now.state editor serial edit) fault) }
+{
+    match office.edit_standing(editor, serial, &edit.digest()) {
+        Ok(_) => Ok(Job::Edit {
+            editor,
+            serial,
+            edit,
+        }),
+        Err(fault) => Err(SubmitFault::Due(DueFault::of(fault))),
     }
 }
 

@@ -1,3 +1,4 @@
 pub mod Lookups
 pub mod HeldLists
 pub mod HeldAddresses
+pub mod ChangedRows

@@ -1,7 +1,7 @@
 -- The rows whose address a range of the street guide holds, and what a change of theirs makes of them.
-use Rattle.std.specs.Prelude.{◌≡◌, ℕ, ℤ, Bool, false, List, length, filter, find, Option, if◌then◌else◌}
+use Rattle.std.specs.Prelude.{◌≡◌, ℕ, ℤ, Bool, false, List, length, map, filter, find, Option, if◌then◌else◌}
 use Rattle.std.specs.Option.{option_map, option_map_or}
-use Rattle.std.specs.FinMap.{get, entries}
+use Rattle.std.specs.FinMap.{get, entries, from_entries}
 use Rattle.ali_base.specs.HouseNumber.{house_of}
 use Rattle.ali_base.specs.StreetGuide.{holds}
 use Rattle.ali_base.specs.declared.range.Range.{Range}
@@ -52,3 +52,7 @@ esn_row r esn row = if holds_row r row then record row { rec = with_esn row.rec 
 -- each number has the row that it had, changed so, and no other number has one
 abbrev pub AreChanged : (Row → Row) → NumberTable → NumberTable → Type 0
 AreChanged change old new = (tn : List ℕ) → get new tn ≡ option_map change (get old tn)
+
+-- the table with each of its rows changed so
+unfoldable pub changed : (Row → Row) → NumberTable → NumberTable
+changed change rows = from_entries (map (λ e. (e.0, change e.1)) (entries rows))

@@ -107,6 +107,13 @@ impl Rows {
         }
     }
 
+    /// No number has a row from now on. Takes no memory.
+    pub fn clear(&mut self)
+        ensures { self.new ≡ no_numbers }
+    {
+        self.by_tn.clear();
+    }
+
     // How many rows the range holds.
     fn count_held(&self, r: &Range) -> u32
         ensures { result ≡ count_held self.now r.now }

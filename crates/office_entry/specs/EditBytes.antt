@@ -1,6 +1,7 @@
 -- The bytes of an edit.
 use Rattle.std.specs.Prelude.{ℕ, ℤ, List, ◌∷◌, ◌++◌}
 use Rattle.std.specs.Int.{w32, to_be_bytes, cast_unsigned}
+use Rattle.sha2.specs.Sha256.{sha256}
 use Rattle.ali_base.specs.Parity.{parity_text}
 use Rattle.ali_base.specs.declared.street_key.StreetKey.{StreetKey}
 use Rattle.office_entry.specs.declared.edit.Edit.{Edit}
@@ -25,3 +26,7 @@ edit_bytes (Retire id) = 82 ∷ number_bytes id
 edit_bytes (Split id at esn) = 83 ∷ number_bytes id ++ number_bytes at ++ number_bytes esn
 edit_bytes (Renumber id by) = 78 ∷ number_bytes id ++ difference_bytes by
 edit_bytes (SetEsn id esn) = 87 ∷ number_bytes id ++ number_bytes esn
+
+-- the digest of an edit: the SHA-256 of its bytes
+abbrev pub edit_digest : Edit → List ℕ
+edit_digest edit = sha256 (edit_bytes edit)

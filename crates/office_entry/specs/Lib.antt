@@ -5,3 +5,4 @@ pub mod EditText
 pub mod EditBytes
 pub mod EditReading
 pub mod BytesReading
+pub mod Entries

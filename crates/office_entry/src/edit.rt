@@ -1,9 +1,8 @@
 //! Edits.
 ghost use Rattle.std.specs.Prelude.{◌≡◌, ◌≤◌, length, take, drop, Some, IfSome};
-ghost use Rattle.sha2.specs.Sha256.{sha256};
 ghost use Rattle.office_entry.specs.Edits.{IsEdit};
 ghost use Rattle.office_entry.specs.EditText.{IsEditText};
-ghost use Rattle.office_entry.specs.EditBytes.{edit_bytes};
+ghost use Rattle.office_entry.specs.EditBytes.{edit_bytes, edit_digest};
 ghost use Rattle.office_entry.specs.EditReading.{edit_of};
 ghost use Rattle.office_entry.specs.BytesReading.{edit_from};
 
@@ -95,7 +94,9 @@ impl Edit {
 
     /// The SHA-256 of its bytes.
     pub fn digest(&self) -> [u8; 32]
-        ensures { result ≡ sha256 (edit_bytes self.now) }
+        ensures digest { result ≡ edit_digest self.now }
+        // Every edit is in the ranges of edits.
+        ensures lawful { IsEdit self.now }
     {
         Sha256::digest(self.fields().bytes())
     }

@@ -1,5 +1,6 @@
 //! Entries of the booked history.
-use ali_base::{Company, Cycle, Day};
+use crate::edit::Edit;
+use ali_base::{Company, Cycle, Day, Editor, Serial};
 
 /// What the office accepts into its history, one after the other.
 #[derive(Drop)]
@@ -23,5 +24,11 @@ pub enum Entry {
         line: u32,
         /// The record, as sent.
         bytes: [u8; 512],
+    },
+    /// An editor's edit of the street guide.
+    Edit {
+        editor: Editor,
+        serial: Serial,
+        edit: Edit,
     },
 }

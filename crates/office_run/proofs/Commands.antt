@@ -4,10 +4,13 @@ use Rattle.batch_frame.specs.FrameFault.{frame_fault}
 use Rattle.office_state.specs.OfficeState.{OfficeState}
 use Rattle.office_state.specs.History.{Represents, state}
 use Rattle.batch_desk.specs.declared.job.Job.{Job}
+use Rattle.batch_desk.specs.declared.job.Job.TheVariants as jobs
+use Rattle.batch_desk.specs.Jobs.{job_standing}
+use Rattle.office_entry.specs.declared.edit.Edit.{Edit as GuideEdit}
 use Rattle.office_run.specs.declared.desk.Desk.{Desk}
 use Rattle.office_run.specs.MadeReply.{Keeps}
-use Rattle.office_run.specs.ScriptGrammar.{Ask, File, Next, Batch}
-use Rattle.office_run.specs.Machine.{Machine, office_limits, answer, file_reply, job_after_file, left_of, left, next_reply, batch_reply, after, reply}
+use Rattle.office_run.specs.ScriptGrammar.{Ask, File, Edit, Next, Batch}
+use Rattle.office_run.specs.Machine.{Machine, office_limits, answer, read_by, job_by, file_reply, job_after_file, left_of, left, next_reply, batch_reply, after, reply}
 
 module _ (o : OfficeState) (job : Option Job) (m : Machine) (office : Represents office_limits o m.history) (same : job ≡ m.job) where
   pub says_ask : (position : ℕ) (tn : List ℕ) (since : ℕ) → answer o.state o.entries tn since ≡ reply m (Ask position tn since)
@@ -17,6 +20,16 @@ module _ (o : OfficeState) (job : Option Job) (m : Machine) (office : Represents
   pub says_file : (content : List ℕ) → file_reply o.state content (frame_fault content) ≡ reply m (File content)
   unfolding reply
   says_file content = ap (λ s. file_reply s content (frame_fault content)) office.same
+
+  pub says_edit : (editor serial : ℕ) (edit : GuideEdit) → let this = jobs.Edit editor serial edit in read_by o.state this (job_standing o.state this) ≡ reply m (Edit editor serial edit)
+  unfolding reply
+  says_edit editor serial edit = let this = jobs.Edit editor serial edit in ap (λ s. read_by s this (job_standing s this)) office.same
+
+  pub job_after_edit : (editor serial : ℕ) (edit : GuideEdit) → let this = jobs.Edit editor serial edit in job_by job this (job_standing o.state this) ≡ (after m (Edit editor serial edit)).job
+  unfolding after
+  job_after_edit editor serial edit =
+      let this = jobs.Edit editor serial edit in
+      ap (λ s. job_by job this (job_standing s this)) office.same ∙ ap (λ j. job_by j this (job_standing (state office_limits m.history) this)) same
 
   -- what is left of the desk's job is what is left of the machine's
   pub left_is : left_of o.state job ≡ left m

@@ -7,9 +7,11 @@ use Rattle.office_entry.specs.declared.entry.Entry.{Entry}
 use Rattle.office_state.specs.OfficeState.{State}
 use Rattle.office_state.specs.Verdict.{verdict}
 use Rattle.batch_desk.specs.declared.job.Job.{Job}
-use Rattle.batch_desk.specs.declared.job.Job.TheVariants.{File}
+use Rattle.batch_desk.specs.declared.job.Job.TheVariants.{File, Edit}
 use Rattle.batch_desk.specs.Jobs.{job_standing, next_of, entries_left}
 use Rattle.batch_desk.specs.FileJobs.{file_standing, next_by}
+use Rattle.batch_desk.specs.EditJobs.{edit_standing, next_edit}
+use Rattle.office_entry.specs.declared.entry.Entry.TheVariants as entry
 use Rattle.batch_desk.specs.JobReplies.{done_of}
 use Rattle.batch_desk.proofs.Steps.{none_left}
 use Rattle.office_run.specs.Machine as machine
@@ -31,6 +33,13 @@ next_readable s (File bytes) e h = by_standing (file_standing s bytes) refl
     by_standing (Ok standing) is = (standing, is)
     by_standing (Err fault) is =
         let none : next_by bytes (Err fault) ≡ Ok e = sym (ap (next_by bytes) is) ∙ h in
+        absurd (cc none)
+next_readable s (Edit editor serial edit) e h = by_standing (edit_standing s editor serial edit) refl
+  where
+    by_standing : (r : Result Standing CycleFault) → edit_standing s editor serial edit ≡ r → (standing : Standing) × (edit_standing s editor serial edit ≡ Ok standing)
+    by_standing (Ok standing) is = (standing, is)
+    by_standing (Err fault) is =
+        let none : next_edit (entry.Edit editor serial edit) (Err fault) ≡ Ok e = sym (ap (next_edit (entry.Edit editor serial edit)) is) ∙ h in
         absurd (cc none)
 
 pub next_booked : (s : State) (count : ℕ) (job : Job) (e : Entry) (rest : List Entry) → next_of s job ≡ Ok e → entries_left s job ≡ e ∷ rest

@@ -1,6 +1,7 @@
 pub mod AskTexts
 pub mod CommandTexts
 pub mod FileTexts
+pub mod EditTexts
 pub mod LineTexts
 pub mod NumberTexts
 pub mod Scripts

@@ -1,7 +1,7 @@
 -- A script has one reading.
 use Rattle.std.proofs.Common.{◌≡◌, ℕ, ◌+◌, ◌≤◌, List, [], ◌∷◌, ◌++◌, length, None, codes, arith, refl, ap, sym, ◌∙◌, subst}
 use Rattle.std.proofs.lemmas.Option.{some_pair_parts}
-use Rattle.office_run.specs.ScriptGrammar.{Command, Ask, File, Next, Batch, ask_text, file_text, BeginsWith, Reads, IsScript, StopsAfter}
+use Rattle.office_run.specs.ScriptGrammar.{Command, Ask, File, Edit, Next, Batch, ask_text, file_text, edit_text, BeginsWith, Reads, IsScript, StopsAfter}
 use Rattle.office_run.specs.ScriptReading.{command_at}
 use Rattle.office_run.proofs.CommandTexts.{command_at-begins}
 use Rattle.office_run.proofs.LineTexts.{line_size}
@@ -10,6 +10,7 @@ use Rattle.office_run.proofs.LineTexts.{line_size}
 abbrev pub size : Command → ℕ
 size (Ask position tn since) = 1
 size (File content) = length content + 1
+size (Edit editor serial edit) = 1
 size Next = 1
 size Batch = 1
 
@@ -18,6 +19,7 @@ pub begins-size : (bytes : List ℕ) (command : Command) (rest : List ℕ) → B
 begins-size bytes (Ask position tn since) rest h = omega (arith, line_size bytes (ask_text position tn since) rest h.spelled)
 begins-size bytes (File content) rest h =
     omega (arith, line_size bytes (file_text (length content)) h.spelled.0 h.spelled.1, line_size h.spelled.0 content rest h.spelled.2)
+begins-size bytes (Edit editor serial edit) rest h = omega (arith, line_size bytes (edit_text editor serial h.spelled.0) rest h.spelled.2)
 begins-size bytes Next rest h = omega (arith, line_size bytes (codes "NEXT") rest h.spelled)
 begins-size bytes Batch rest h = omega (arith, line_size bytes (codes "BATCH") rest h.spelled)
 
@@ -25,6 +27,7 @@ begins-size bytes Batch rest h = omega (arith, line_size bytes (codes "BATCH") r
 no_command : (command : Command) (rest : List ℕ) → BeginsWith [] command rest → ⊥
 no_command (Ask position tn since) rest h = omega (arith, begins-size [] (Ask position tn since) rest h)
 no_command (File content) rest h = omega (arith, begins-size [] (File content) rest h)
+no_command (Edit editor serial edit) rest h = omega (arith, begins-size [] (Edit editor serial edit) rest h)
 no_command Next rest h = omega (arith, begins-size [] Next rest h)
 no_command Batch rest h = omega (arith, begins-size [] Batch rest h)
 

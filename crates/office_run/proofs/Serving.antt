@@ -12,12 +12,13 @@ use Rattle.office_run.specs.declared.desk.Desk.{Desk}
 use Rattle.office_run.specs.Exit.{RepliedToAll, StoppedAt, RepliedInPart, RepliedToSome}
 use Rattle.office_run.proofs.CommandTexts.{begins-command_at}
 use Rattle.office_run.proofs.Scripts.{Reads-snoc, no_first, begins-size}
-use Rattle.office_run.proofs.Machines.{load, load_after, after_all-snoc, replies_text-snoc}
+use Rattle.office_run.proofs.Machines.{AreCommands, commands_more, sound_at, load, load_after, after_all-snoc, replies_text-snoc}
 use Rattle.office_run.proofs.Commands.{left_is}
 
 -- the commands so far have their replies, the desk keeps the machine after them, and rest is left of the script; what is booked and what is left of the job is no more than was read
 pub record Served (script : List ℕ) (old new : Option (List ℕ)) (rest : List ℕ) (desk : Desk) (count : ℕ) : Type 0 where
   pub commands : List Command
+  pub lawful : AreCommands commands
   pub reads : Reads script commands rest
   pub put : Appends old new (replies_text start commands)
   pub kept : Keeps desk (after_all start commands)
@@ -25,7 +26,7 @@ pub record Served (script : List ℕ) (old new : Option (List ℕ)) (rest : List
   pub small : load (after_all start commands) + length rest ≤ length script
 
 pub served_none : (script : List ℕ) (held : Option (List ℕ)) (desk : Desk) → Keeps desk start → Served script held held script desk 0
-served_none script held desk h = record { commands = []; reads = refl; put = Appends-nil held; kept = h; count_is = refl; small = omega arith }
+served_none script held desk h = record { commands = []; lawful = tt; reads = refl; put = Appends-nil held; kept = h; count_is = refl; small = omega arith }
 
 -- what is booked and what is left of the job
 pub served_room : (script : List ℕ) (old new : Option (List ℕ)) (rest : List ℕ) (desk : Desk) (count : ℕ) → Served script old new rest desk count
@@ -45,11 +46,12 @@ served_more script old mid new rest later desk desk' count next so_far first put
     let both = Appends-trans old mid new (replies_text start so_far.commands) (reply_text (reply m next)) so_far.put (put m so_far.kept) in
     record {
       commands = so_far.commands ++ next ∷ [];
+      lawful = commands_more so_far.commands next so_far.lawful begins.lawful;
       reads = Reads-snoc script so_far.commands next rest later so_far.reads begins;
       put = subst (Appends old new) (sym (replies_text-snoc start so_far.commands next)) both;
       kept = subst (Keeps desk') (sym (after_all-snoc start so_far.commands next)) (then m so_far.kept);
       count_is = omega (arith, so_far.count_is, length-append so_far.commands (next ∷ []));
-      small = omega (arith, so_far.small, begins-size rest next later begins, load_after m next so_far.kept.office.legal, ap load (after_all-snoc start so_far.commands next));
+      small = omega (arith, so_far.small, begins-size rest next later begins, load_after m next (sound_at so_far.commands so_far.lawful), ap load (after_all-snoc start so_far.commands next));
     }
 
 -- the last reply was put in part

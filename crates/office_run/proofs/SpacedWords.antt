@@ -13,6 +13,11 @@ use Rattle.office_run.specs.ScriptReading.{word_at}
 abbrev pub Clear : (ℕ → Bool) → List ℕ → Type 0
 Clear p xs = AllByRecursion (λ x. p x ≡ false) xs
 
+-- no byte of two texts passes it where none of either does
+pub Clear-append : (p : ℕ → Bool) (xs ys : List ℕ) → Clear p xs → Clear p ys → Clear p (xs ++ ys)
+Clear-append p [] ys h k = k
+Clear-append p (x ∷ xs) ys h k = (h.0, Clear-append p xs ys h.1 k)
+
 place : (p : ℕ → Bool) (w r : List ℕ) (x : ℕ) → Clear p w → p x ≡ true → position_or_len p (w ++ x ∷ r) ≡ length w
 place p [] r x clear at = ap (λ b. cond (not b) (1 + position_or_len p r) 0) at
 place p (y ∷ ys) r x clear at =

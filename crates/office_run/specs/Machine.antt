@@ -15,14 +15,14 @@ use Rattle.batch_desk.specs.declared.job.Job.{Job}
 use Rattle.batch_desk.specs.declared.job.Job.TheVariants as jobs
 use Rattle.batch_desk.specs.Jobs.{job_standing, entries_left}
 use Rattle.batch_desk.specs.JobReplies.{read_of, done_of}
-use Rattle.office_run.specs.ScriptGrammar.{Command, Ask, File, Next, Batch}
+use Rattle.office_run.specs.ScriptGrammar.{Command, Ask, File, Edit, Next, Batch}
 use Rattle.office_run.specs.Replies as replies
 
 -- the limits of the office that the program runs
 abbrev pub office_limits : Limits
 office_limits = record { companies = 64; numbers = 300_000; ranges = 100_000 }
 
--- the booked history, and the job: the file that was read last
+-- the booked history, and the job: the file or the edit that was read last
 pub record Machine : Type 0 where
   pub history : List Entry
   pub job : Option Job
@@ -39,7 +39,7 @@ state_of m = state office_limits m.history
 unfoldable pub answer : State → ℕ → List ℕ → ℕ → replies.Reply
 answer s count tn since = if nat_lt count since then replies.Ahead since count else replies.Answer count (form (get s.table tn) tn)
 
--- a file without a fault of its frame is read, or refused, by its standing
+-- a file without a fault of its frame, or an edit, is read or refused by its standing
 abbrev pub read_by : State → Job → Result Standing CycleFault → replies.Reply
 read_by s job (Ok standing) = replies.Read (read_of s job)
 read_by s job (Err fault) = replies.Refused fault
@@ -49,7 +49,7 @@ abbrev pub file_reply : State → List ℕ → Option FrameFault → replies.Rep
 file_reply s content (Some fault) = replies.Frame fault
 file_reply s content None = read_by s (jobs.File content) (job_standing s (jobs.File content))
 
--- a file that is read becomes the job; a refused one leaves the job that was
+-- what is read becomes the job; what is refused leaves the job that was
 abbrev pub job_by : Option Job → Job → Result Standing CycleFault → Option Job
 job_by old job (Ok standing) = Some job
 job_by old job (Err fault) = old
@@ -93,6 +93,7 @@ batch_reply s end (Some job) = batch_by end job (job_standing s job)
 unfoldable pub after : Machine → Command → Machine
 after m (Ask position tn since) = m
 after m (File content) = record m { job = job_after_file (state_of m) m.job content (frame_fault content) }
+after m (Edit editor serial edit) = record m { job = job_by m.job (jobs.Edit editor serial edit) (job_standing (state_of m) (jobs.Edit editor serial edit)) }
 after m Next = record m { history = m.history ++ take 1 (left m) }
 after m Batch = record m { history = m.history ++ left m }
 
@@ -100,6 +101,7 @@ after m Batch = record m { history = m.history ++ left m }
 unfoldable pub reply : Machine → Command → replies.Reply
 reply m (Ask position tn since) = answer (state_of m) (length m.history) tn since
 reply m (File content) = file_reply (state_of m) content (frame_fault content)
+reply m (Edit editor serial edit) = read_by (state_of m) (jobs.Edit editor serial edit) (job_standing (state_of m) (jobs.Edit editor serial edit))
 reply m Next = next_reply (state_of m) (length m.history) m.job
 reply m Batch = batch_reply (state_of m) (state office_limits (m.history ++ left m)) m.job
 

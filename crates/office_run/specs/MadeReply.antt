@@ -29,9 +29,9 @@ reply_of s job (Ahead since count) = replies.Ahead since count
 reply_of s job (Answer count form) = replies.Answer count form
 reply_of s job (Frame fault) = replies.Frame fault
 reply_of s job (Refused fault) = replies.Refused fault
-reply_of s job (Read file) = replies.Read file
+reply_of s job (Read read) = replies.Read read
 reply_of s job NoJob = replies.NoJob
-reply_of s job (Complete file) = replies.Complete file
+reply_of s job (Complete done) = replies.Complete done
 reply_of s job (Booked number code) = replies.Booked number code
 reply_of s job Finished = finished s job
 
@@ -46,9 +46,9 @@ IsTrue s job (Ahead since count) = Unit {0}
 IsTrue s job (Answer count form) = Unit {0}
 IsTrue s job (Frame fault) = Unit {0}
 IsTrue s job (Refused fault) = Unit {0}
-IsTrue s job (Read file) = Unit {0}
+IsTrue s job (Read read) = Unit {0}
 IsTrue s job NoJob = Unit {0}
-IsTrue s job (Complete file) = Unit {0}
+IsTrue s job (Complete done) = Unit {0}
 IsTrue s job (Booked number code) = Unit {0}
 IsTrue s job Finished = IsFinished s job
 

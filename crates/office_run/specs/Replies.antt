@@ -6,20 +6,20 @@ use Rattle.sequence_once.specs.declared.standing.CycleFault.{CycleFault}
 use Rattle.text_line.specs.WordLines.{line_of}
 use Rattle.office_state.specs.OfficeState.{State}
 use Rattle.batch_desk.specs.declared.job.Job.{Job}
-use Rattle.batch_desk.specs.declared.reply_line.FileRead.{FileRead}
-use Rattle.batch_desk.specs.declared.reply_line.FileDone.{FileDone}
-use Rattle.batch_desk.specs.ReplyLines.{frame_line, refusal_line, read_line, complete_line}
+use Rattle.batch_desk.specs.declared.reply_line.JobRead.{JobRead}
+use Rattle.batch_desk.specs.declared.reply_line.JobDone.{JobDone}
+use Rattle.batch_desk.specs.ReplyLines.{frame_line, refusal_line, read_line, done_line}
 use Rattle.batch_desk.specs.JobReplies.{job_reply}
 
--- Ahead: fewer entries are booked than were asked for. Answer: the form of a number after so many entries. Frame: the first fault of a file's frame. Refused: the fault of a file's standing. Read: a file was read. NoJob: no file was read. Complete: all entries of the file are booked. Booked: the number of an entry in the booked history, and its code. Finished: all entries of the job are booked, in this state, and its error file follows
+-- Ahead: fewer entries are booked than were asked for. Answer: the form of a number after so many entries. Frame: the first fault of a file's frame. Refused: the fault of the standing of a file or an edit. Read: a job was read. NoJob: there is no job. Complete: all entries of the job are booked. Booked: the number of an entry in the booked history, and its code. Finished: all entries of the job are booked, in this state, and of a file the error file follows
 pub data Reply : Type 0 where
   Ahead : (since count : ℕ) → Reply
   Answer : (count : ℕ) (form : List ℕ) → Reply
   Frame : (fault : FrameFault) → Reply
   Refused : (fault : CycleFault) → Reply
-  Read : (file : FileRead) → Reply
+  Read : (job : JobRead) → Reply
   NoJob : Reply
-  Complete : (file : FileDone) → Reply
+  Complete : (job : JobDone) → Reply
   Booked : (number code : ℕ) → Reply
   Finished : (s : State) (job : Job) → Reply
 
@@ -36,9 +36,9 @@ reply_line (Ahead since count) = numbers_line (codes "AHEAD") since count
 reply_line (Answer count form) = numbers_line (codes "ANSWER") count (length form)
 reply_line (Frame fault) = frame_line fault
 reply_line (Refused fault) = refusal_line fault
-reply_line (Read file) = read_line file
+reply_line (Read job) = read_line job
 reply_line NoJob = no_job_line
-reply_line (Complete file) = complete_line file
+reply_line (Complete job) = done_line job
 reply_line (Booked number code) = numbers_line (codes "BOOKED") number code
 reply_line (Finished s job) = []
 
@@ -48,9 +48,9 @@ reply_block (Ahead since count) = []
 reply_block (Answer count form) = form
 reply_block (Frame fault) = []
 reply_block (Refused fault) = []
-reply_block (Read file) = []
+reply_block (Read job) = []
 reply_block NoJob = []
-reply_block (Complete file) = []
+reply_block (Complete job) = []
 reply_block (Booked number code) = []
 reply_block (Finished s job) = job_reply s job
 

@@ -1,12 +1,17 @@
 -- The grammar of scripts: a list of commands, each by its text.
 use Rattle.std.specs.Prelude.{◌≡◌, ◌≢◌, ◌⊎◌, ℕ, ◌^◌, ◌<◌, ◌≤◌, List, [], ◌∷◌, ◌++◌, length, codes}
 use Rattle.std.specs.Fmt.{decimal}
+use Rattle.ali_base.specs.Editors.{IsEditor, IsSerial}
 use Rattle.ali_base.specs.TelephoneNumber.{IsTn}
+use Rattle.office_entry.specs.declared.edit.Edit.{Edit as GuideEdit}
+use Rattle.office_entry.specs.Edits.{IsEdit}
+use Rattle.office_entry.specs.EditText.{IsEditText}
 
--- a command: the request of a position, which asks for a number after at least so many entries; a carrier's file; the next entry of the file that was read last; and all that are left of it
+-- a command: the request of a position, which asks for a number after at least so many entries; a carrier's file; an editor's edit of the street guide; the next entry of the job, which is the file or edit that was read last; and all that are left of it
 pub data Command : Type 0 where
   Ask : (position : ℕ) (tn : List ℕ) (since : ℕ) → Command
   File : (content : List ℕ) → Command
+  Edit : (editor serial : ℕ) (edit : GuideEdit) → Command
   Next : Command
   Batch : Command
 
@@ -25,6 +30,7 @@ pub record IsAsk (position : ℕ) (tn : List ℕ) (since : ℕ) : Type 0 where
 abbrev pub IsCommand : Command → Type 0
 IsCommand (Ask position tn since) = IsAsk position tn since
 IsCommand (File content) = length content ≤ file_limit
+IsCommand (Edit editor serial edit) = IsEditor editor × IsSerial serial × IsEdit edit
 IsCommand Next = Unit {0}
 IsCommand Batch = Unit {0}
 
@@ -35,6 +41,10 @@ ask_text position tn since = codes "ASK" ++ 32 ∷ (codes "a" ++ 32 ∷ (decimal
 -- `FILE length`
 abbrev pub file_text : ℕ → List ℕ
 file_text len = codes "FILE" ++ 32 ∷ decimal len
+
+-- `EDIT editor serial`, and the text of the edit
+abbrev pub edit_text : ℕ → ℕ → List ℕ → List ℕ
+edit_text editor serial text = codes "EDIT" ++ 32 ∷ (decimal editor ++ 32 ∷ (decimal serial ++ 32 ∷ text))
 
 -- the bytes are the end of a line, which may be missing at the end of the bytes; rest is what is left
 abbrev pub LineEnds : List ℕ → List ℕ → Type 0
@@ -48,6 +58,7 @@ BeginsLine bytes text rest = (tail : List ℕ) × (bytes ≡ text ++ tail) × Li
 abbrev pub Spelled : List ℕ → Command → List ℕ → Type 0
 Spelled bytes (Ask position tn since) rest = BeginsLine bytes (ask_text position tn since) rest
 Spelled bytes (File content) rest = (left : List ℕ) × BeginsLine bytes (file_text (length content)) left × BeginsLine left content rest
+Spelled bytes (Edit editor serial edit) rest = (text : List ℕ) × IsEditText text edit × BeginsLine bytes (edit_text editor serial text) rest
 Spelled bytes Next rest = BeginsLine bytes (codes "NEXT") rest
 Spelled bytes Batch rest = BeginsLine bytes (codes "BATCH") rest
 

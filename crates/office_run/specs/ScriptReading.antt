@@ -6,7 +6,8 @@ use Rattle.ali_base.specs.Steps.{◌>>=◌, when}
 use Rattle.ali_base.specs.Columns.{is_space}
 use Rattle.ali_base.specs.Digits.{digits_number}
 use Rattle.ali_base.specs.TelephoneNumber.{tn_of}
-use Rattle.office_run.specs.ScriptGrammar.{Command, Ask, File, Next, Batch, file_limit}
+use Rattle.office_entry.specs.EditReading.{edit_of}
+use Rattle.office_run.specs.ScriptGrammar.{Command, Ask, File, Edit, Next, Batch, file_limit}
 
 -- one to ten bytes, the first no 0 unless it is alone
 abbrev pub is_short : List ℕ → Bool
@@ -33,6 +34,22 @@ ask_of bytes = do
   tn ← tn_of number.0
   since ← number_of number.1
   when (bytes_eq word.0 (codes "ASK") && bytes_eq node.0 (codes "a") && nat_le 1 p && nat_le p 64) (Ask p tn since)
+
+-- `EDIT editor serial edit`, without the end of its line
+unfoldable pub edit_of_line : List ℕ → Option Command
+edit_of_line bytes = do
+  word ← word_at bytes
+  editor ← word_at word.1
+  serial ← word_at editor.1
+  e ← number_of editor.0
+  s ← number_of serial.0
+  edit ← edit_of serial.1
+  when (bytes_eq word.0 (codes "EDIT") && nat_le 1 e && nat_le e 64 && nat_le 1 s && nat_le s 999_999_999) (Edit e s edit)
+
+-- a request, or else an edit
+abbrev pub ask_or_edit : Option Command → List ℕ → Option Command
+ask_or_edit (Some ask) line = Some ask
+ask_or_edit None line = edit_of_line line
 
 abbrev pub is_line_end : ℕ → Bool
 is_line_end byte = byte == 10
@@ -62,12 +79,12 @@ file_length_of line = do
 unfoldable pub content_at : ℕ → List ℕ → Option (Command × List ℕ)
 content_at len bytes = if nat_lt (length bytes) len then None else ended (take len bytes) (drop len bytes)
 
--- a file of this length, or else a request, by its line and what is left after it
-abbrev pub file_or_ask : Option ℕ → List ℕ × List ℕ → Option (Command × List ℕ)
-file_or_ask (Some len) line = content_at len line.1
-file_or_ask None line = (do
-  ask ← ask_of line.0
-  Some (ask, line.1))
+-- a file of this length, or else a request or an edit, by its line and what is left after it
+abbrev pub file_or_other : Option ℕ → List ℕ × List ℕ → Option (Command × List ℕ)
+file_or_other (Some len) line = content_at len line.1
+file_or_other None line = (do
+  command ← ask_or_edit (ask_of line.0) line.0
+  Some (command, line.1))
 
 -- the command of a first line, and what is left after it
 abbrev pub command_of_line : List ℕ × List ℕ → Option (Command × List ℕ)
@@ -76,7 +93,7 @@ command_of_line line =
     then Some (Next, line.1)
     else (if bytes_eq line.0 (codes "BATCH")
     then Some (Batch, line.1)
-    else file_or_ask (file_length_of line.0) line)
+    else file_or_other (file_length_of line.0) line)
 
 -- the first command, and what is left after it
 unfoldable pub command_at : List ℕ → Option (Command × List ℕ)

@@ -3,10 +3,11 @@ ghost use Rattle.std.specs.Prelude.{◌≡◌, ℕ, ◌+◌, ◌<◌, ◌≤◌,
 ghost use Rattle.std.specs.List.{position};
 ghost use Rattle.ali_base.specs.Columns.{is_space};
 ghost use Rattle.office_run.specs.ScriptGrammar as script;
-ghost use Rattle.office_run.specs.ScriptReading.{number_of, word_at, ask_of, file_length_of, content_at, file_or_ask, command_at, line_at, is_line_end};
+ghost use Rattle.office_run.specs.ScriptReading.{number_of, word_at, ask_of, edit_of_line, ask_or_edit, file_length_of, content_at, file_or_other, command_at, line_at, is_line_end};
 ghost use Rattle.office_run.specs.ParsedCommand.{command_of};
 
-use ali_base::{Tn, digits_number};
+use ali_base::{Editor, Serial, Tn, digits_number};
+use office_entry::Edit;
 
 /// The most bytes of a carrier's file.
 pub const FILE_LIMIT: u32 = 16_777_216;
@@ -28,7 +29,13 @@ pub enum Command<'a> {
     Ask(Ask),
     /// `FILE length`, and the bytes of a carrier's file, which is read.
     File(&'a [u8]),
-    /// `NEXT`: the next entry of the file that was read last is booked.
+    /// `EDIT editor serial edit`: an editor's edit of the street guide, which is read.
+    Edit {
+        editor: Editor,
+        serial: Serial,
+        edit: Edit,
+    },
+    /// `NEXT`: the next entry of the job is booked.
     Next,
     /// `BATCH`: all entries that are left of it are booked.
     Batch,
@@ -51,13 +58,13 @@ impl<'a> Command<'a> {
         if line == b"BATCH".as_slice() {
             return Some((Command::Batch, rest));
         }
-        file_or_ask(line, rest)
+        file_or_other(line, rest)
     }
 }
 
-// A file, or else a request, by its line and what is left after it.
-fn file_or_ask<'a>(line: &'a [u8], rest: &'a [u8]) -> Option<(Command<'a>, &'a [u8])>
-    ensures command { option_map (λ x. (command_of x.0, x.1.now)) result ≡ file_or_ask (file_length_of line.now) (line.now, rest.now) }
+// A file, or else a request or an edit, by its line and what is left after it.
+fn file_or_other<'a>(line: &'a [u8], rest: &'a [u8]) -> Option<(Command<'a>, &'a [u8])>
+    ensures command { option_map (λ x. (command_of x.0, x.1.now)) result ≡ file_or_other (file_length_of line.now) (line.now, rest.now) }
     ensures some { IfSome result (λ x. 0 < length line.now) }
     ensures no_longer { IfSome result (λ x. length x.1.now ≤ length rest.now) }
 {
@@ -66,10 +73,21 @@ fn file_or_ask<'a>(line: &'a [u8], rest: &'a [u8]) -> Option<(Command<'a>, &'a [
             let (content, rest) = content_at(len as usize, rest)?;
             Some((Command::File(content), rest))
         }
-        None => match ask_of(line) {
-            Some(ask) => Some((Command::Ask(ask), rest)),
+        None => match ask_or_edit(line) {
+            Some(command) => Some((command, rest)),
             None => None,
         },
+    }
+}
+
+// A request, or else an edit.
+fn ask_or_edit<'a>(line: &[u8]) -> Option<Command<'a>>
+    ensures command { option_map command_of result ≡ ask_or_edit (ask_of line.now) line.now }
+    ensures some { IfSome result (λ command. 0 < length line.now) }
+{
+    match ask_of(line) {
+        Some(ask) => Some(Command::Ask(ask)),
+        None => edit_of(line),
     }
 }
 
@@ -142,6 +160,28 @@ fn ask_of(line: &[u8]) -> Option<Ask>
     } else {
         None
     }
+}
+
+// `EDIT editor serial edit`
+#[tactic(auto, unfolding(crate::specs::ScriptReading::edit_of_line))]
+fn edit_of<'a>(line: &[u8]) -> Option<Command<'a>>
+    ensures edit { option_map command_of result ≡ edit_of_line line.now }
+    ensures some { IfSome result (λ command. 0 < length line.now) }
+{
+    let (word, rest) = word_at(line)?;
+    let (editor, rest) = word_at(rest)?;
+    let (serial, edit) = word_at(rest)?;
+    let editor = number_of(editor)?;
+    let serial = number_of(serial)?;
+    let edit = Edit::read_text(edit)?;
+    if word != b"EDIT".as_slice() || editor > 64 {
+        return None;
+    }
+    Some(Command::Edit {
+        editor: Editor::new(editor as u8)?,
+        serial: Serial::new(serial)?,
+        edit,
+    })
 }
 
 // The length of `FILE length`, at most 16,777,216.

@@ -1,10 +1,11 @@
-//! The desk of a script: the office, and the file that was read last.
-ghost use Rattle.std.specs.Prelude.{◌≡◌, ℕ, ◌+◌, ◌<◌, ◌≤◌, List, [], ◌∷◌, ◌++◌, length, take, Option, IfOk, OnOk, OnErr, Ok, Err};
+//! The desk of a script: the office, and the job, which is the file or the edit that was read last.
+ghost use Rattle.std.specs.Prelude.{◌≡◌, ℕ, ◌+◌, ◌<◌, ◌≤◌, List, [], ◌∷◌, ◌++◌, length, take, Option, Result, Some, IfOk, OnOk, OnErr, Ok, Err};
 ghost use Rattle.batch_frame.specs.FrameFault.{frame_fault};
 ghost use Rattle.sequence_once.specs.declared.standing.Standing.TheVariants.{Complete};
 ghost use Rattle.std.specs.Io.KnownBytes.{Appends};
 ghost use Rattle.ali_base.specs.Faults.{Rose};
 ghost use Rattle.ali_base.specs.WholePuts.{AppendsPart};
+ghost use Rattle.sequence_once.specs.declared.standing.Standing.{Standing as AnyStanding};
 ghost use Rattle.sequence_once.specs.declared.standing.CycleFault.{CycleFault as AnyFault};
 ghost use Rattle.office_entry.specs.declared.entry.Entry.{Entry as AnyEntry};
 ghost use Rattle.office_state.specs.declared.limits.Limits.{Limits as AnyLimits};
@@ -14,8 +15,8 @@ ghost use Rattle.office_state.specs.History.{Represents};
 ghost use Rattle.office_state.specs.OfficeState.{State};
 ghost use Rattle.batch_desk.specs.declared.job.Job.{Job as AnyJob};
 ghost use Rattle.batch_desk.specs.Jobs.{job_standing, next_of, entries_left};
-ghost use Rattle.batch_desk.specs.SubmitFaults.{IsSubmitFault};
-ghost use Rattle.batch_desk.specs.JobReplies.{job_reply};
+ghost use Rattle.batch_desk.specs.SubmitFaults.{IsSubmitFault, IsEditFault};
+ghost use Rattle.batch_desk.specs.JobReplies.{job_reply, read_of};
 ghost use Rattle.office_run.specs.Replies as replies;
 ghost use Rattle.office_run.specs.Machine as machine;
 ghost use Rattle.office_run.specs.ParsedCommand.{command_of};
@@ -23,13 +24,13 @@ ghost use Rattle.office_run.specs.MadeReply.{Keeps, IsTrue, StaysReadable, reply
 
 use crate::command::{Ask, Command};
 use crate::reply::{Form, Reply, no_job_line, numbers_line};
-use ali_base::{NoMemory, Sink, SinkFault, put_all};
+use ali_base::{Editor, NoMemory, Serial, Sink, SinkFault, put_all};
 use batch_desk::{
-    Job, SubmitFault, complete_line, desk_reply, file_done, file_read, frame_line, next_entry,
-    read_line, refusal_line, submit_file,
+    Job, SubmitFault, desk_reply, done_line, frame_line, job_done, job_read, next_entry, read_line,
+    refusal_line, submit_edit, submit_file,
 };
 use error_files::ErrorsEnd;
-use office_entry::Entry;
+use office_entry::{Edit, Entry};
 use office_state::{ApplyFault, DueFault, Limits, Office, Verdict};
 use sequence_once::CycleFault;
 use std::alloc::Global;
@@ -67,6 +68,11 @@ impl Desk {
         match command {
             Command::Ask(ask) => Ok(self.answer(ask)),
             Command::File(content) => self.read(alloc, content),
+            Command::Edit {
+                editor,
+                serial,
+                edit,
+            } => Ok(self.read_edit(*editor, *serial, *edit)),
             Command::Next => self.book_next(),
             Command::Batch => self.book_all(),
         }
@@ -103,9 +109,32 @@ impl Desk {
             Ok(job) => job,
             Err((_bytes, fault)) => return Ok(not_read(fault)),
         };
-        let file = file_read(&self.office, &job);
+        Ok(self.take(job))
+    }
+
+    // Reads an edit, which becomes the job where it is not refused.
+    fn read_edit(&mut self, editor: Editor, serial: Serial, edit: Edit) -> Reply
+        ensures reply { reply_of self.new.office.state self.new.job result ≡ machine.read_by self.old.office.state (AnyJob.Edit editor serial edit) (job_standing self.old.office.state (AnyJob.Edit editor serial edit)) }
+        ensures job { self.new.job ≡ machine.job_by self.old.job (AnyJob.Edit editor serial edit) (job_standing self.old.office.state (AnyJob.Edit editor serial edit)) }
+        ensures office { self.new.office ≡ self.old.office }
+        ensures is_true { IsTrue self.new.office.state self.new.job result }
+    {
+        match submit_edit(&self.office, editor, serial, edit) {
+            Ok(job) => self.take(job),
+            Err(fault) => edit_refused(fault),
+        }
+    }
+
+    // Takes a job that was read.
+    fn take(&mut self, job: Job) -> Reply
+        ensures reply { reply_of self.new.office.state self.new.job result ≡ replies.Read (read_of self.old.office.state job) }
+        ensures job { self.new.job ≡ Some job }
+        ensures office { self.new.office ≡ self.old.office }
+        ensures is_true { IsTrue self.new.office.state self.new.job result }
+    {
+        let read = job_read(&self.office, &job);
         self.job = Some(job);
-        Ok(Reply::Read(file))
+        Reply::Read(read)
     }
 
     // Books the next entry of the job.
@@ -163,9 +192,9 @@ impl Desk {
             ),
             Reply::Frame(fault) => frame_line(fault),
             Reply::Refused(fault) => refusal_line(fault),
-            Reply::Read(file) => read_line(file),
+            Reply::Read(read) => read_line(read),
             Reply::NoJob => no_job_line(),
-            Reply::Complete(file) => complete_line(file),
+            Reply::Complete(done) => done_line(done),
             Reply::Booked { number, code } => numbers_line(b"BOOKED", *number, u32::from(*code)),
             Reply::Finished => Line::new(),
         }
@@ -226,14 +255,25 @@ fn next(office: &mut Office, job: &Job) -> Result<Reply, NoMemory>
 {
     let entry = match next_entry(office, job) {
         Ok(entry) => entry,
-        Err(DueFault::Complete) => return Ok(Reply::Complete(file_done(office, job))),
-        Err(fault) => return Ok(refused(fault)),
+        Err(fault) => return Ok(none_next(office, job, fault)),
     };
     let verdict = book(office, &entry)?;
     Ok(Reply::Booked {
         number: office.entries(),
         code: verdict.code,
     })
+}
+
+// The reply to `NEXT` where there is no next entry, by why there is none.
+fn none_next(office: &Office, job: &Job, fault: DueFault) -> Reply
+    requires { next_of office.now.state job.now ≡ Err fault }
+    ensures reply { (count : ℕ) → reply_of office.now.state (Some job.now) result ≡ machine.next_by office.now.state count job.now (job_standing office.now.state job.now) }
+    ensures is_true { IsTrue office.now.state (Some job.now) result }
+{
+    match fault {
+        DueFault::Complete => Reply::Complete(job_done(office, job)),
+        fault => refused(fault),
+    }
 }
 
 // Books all entries that are left of a job.
@@ -278,7 +318,20 @@ fn not_read(fault: SubmitFault) -> Reply
     }
 }
 
-// The refusal of a file, by the fault of its standing.
+// The reply to an edit that is no job.
+fn edit_refused(fault: SubmitFault) -> Reply
+    requires { (standing : Result AnyStanding AnyFault) × IsEditFault standing fault }
+    ensures reply { (s : State) (job : Option AnyJob) (edit : AnyJob) (standing : Result AnyStanding AnyFault) → IsEditFault standing fault → reply_of s job result ≡ machine.read_by s edit standing }
+    ensures job { (old : Option AnyJob) (edit : AnyJob) (standing : Result AnyStanding AnyFault) → IsEditFault standing fault → machine.job_by old edit standing ≡ old }
+    ensures is_true { (s : State) (job : Option AnyJob) → IsTrue s job result }
+{
+    match fault {
+        SubmitFault::Frame(_) => unreachable!(),
+        SubmitFault::Due(fault) => refused(fault),
+    }
+}
+
+// The refusal of a file or an edit, by the fault of its standing.
 fn refused(fault: DueFault) -> Reply
     requires { (f : AnyFault) × (fault ≡ standing_fault f) }
     ensures { (f : AnyFault) → fault ≡ standing_fault f → result ≡ Reply.Refused f }

@@ -14,8 +14,8 @@ mod words;
 pub use command::{Ask, Command};
 pub use forms::form;
 pub use laws::{
-    batches_complete_their_files, commands_are_read_as_spelled, histories_are_legal,
-    history_only_grows, repeated_files_get_the_same_reply, scripts_have_one_reading,
+    batches_complete_their_jobs, commands_are_read_as_spelled, histories_are_legal,
+    history_only_grows, repeated_jobs_get_the_same_reply, scripts_have_one_reading,
 };
 pub use run::office;
 pub use status::Status;

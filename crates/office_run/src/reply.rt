@@ -6,7 +6,7 @@ ghost use Rattle.office_run.specs.Replies.{numbers_line, no_job_line};
 
 use crate::forms::form;
 use ali_base::Tn;
-use batch_desk::{FileDone, FileRead};
+use batch_desk::{JobDone, JobRead};
 use batch_frame::FrameFault;
 use office_state::Office;
 use sequence_once::CycleFault;
@@ -57,17 +57,17 @@ pub(crate) enum Reply {
     Answer { count: u32, form: Form },
     /// The first fault of a file's frame.
     Frame(FrameFault),
-    /// The fault of a file's standing.
+    /// The fault of the standing of a file or an edit.
     Refused(CycleFault),
-    /// A file was read.
-    Read(FileRead),
-    /// No file was read.
+    /// A job was read.
+    Read(JobRead),
+    /// There is no job.
     NoJob,
-    /// All entries of the file are booked.
-    Complete(FileDone),
+    /// All entries of the job are booked.
+    Complete(JobDone),
     /// The entry's number in the booked history, and its code.
     Booked { number: u32, code: u16 },
-    /// All entries of the desk's job are booked; its error file follows.
+    /// All entries of the desk's job are booked; of a file the error file follows.
     Finished,
 }
 

@@ -14,7 +14,7 @@ fn put(record: &mut [u8; 512], column: usize, text: &[u8])
 }
 
 // A record of a number on MAIN ST, DENVER CO, with its function in front.
-fn record(number: &[u8; 11], house: &[u8; 3]) -> [u8; 512] {
+fn record(number: &[u8; 11], house: &[u8; 6]) -> [u8; 512] {
     let mut record = [b' '; 512];
     put(&mut record, 1, number);
     put(&mut record, 12, house);
@@ -55,6 +55,15 @@ fn trailer(count: u8) -> [u8; 512] {
     trailer[22] = count;
     trailer
 }
+
+// The edit that makes the even numbers 100 to 198 of MAIN ST a range, and what it gets.
+const STREET: &[u8] = b"EDIT 1 1 ADD DENVER|CO||MAIN|ST||100|198|E|101
+BATCH
+";
+
+const STREET_MADE: &[u8] = b"READ EDIT 1 1
+EDITED 1 1 0 1
+";
 
 // Adds 512-byte records one after the other.
 fn add_records(script: &mut Vec<u8>, records: &[[u8; 512]]) -> Result<(), Fail> {
@@ -98,48 +107,53 @@ fn run(
     Ok(Ended { status, sink })
 }
 
-const ENTRY_BY_ENTRY: &[u8] = b"READ FILE ABC01 1 3 0
+const ENTRY_BY_ENTRY: &[u8] = b"READ EDIT 1 1
 BOOKED 1 0
+EDITED 1 1 0 1
+READ FILE ABC01 1 3 0
 BOOKED 2 0
 BOOKED 3 0
-BOOKED 4 313
+BOOKED 4 0
+BOOKED 5 313
 COMPLETE ABC01 1 3 1
 COMPLETE ABC01 1 3 1
 ERRORS 1536
 ";
 
 const READ_AGAIN: &[u8] = b"
-ANSWER 4 103
+ANSWER 5 109
 TN 3035550100 CLASS 1 TYPE 0
 NAME JOHN SMITH
 ADDR 100 MAIN ST
 CITY DENVER CO
 LOC
-ESN CO ABC01 UNLOCKED
+ESN 00101 CO ABC01 UNLOCKED
 READ FILE ABC01 1 3 4
 COMPLETE ABC01 1 3 1
 ERRORS 1536
 ";
 
 const NO_RECORD: &[u8] = b"
-ANSWER 4 30
+ANSWER 5 30
 TN 3035550199 NO RECORD FOUND
 ";
 
-// A file of an insert, an unlocking and a change, which is refused since the number is unlocked. Its
-// entries are booked one by one, the reply has the error file, and the file again gets the same reply
-// and books nothing.
+// An edit, and a file of an insert, an unlocking and a change, which is refused since the number is
+// unlocked. The entries are booked one by one, the reply has the error file, and the file again gets the
+// same reply and books nothing.
 #[test]
 fn file_entry_by_entry(rt: HostRuntime) -> Result<(), Fail> {
-    let insert = record(b"I3035550100", b"100");
-    let unlock = record(b"U3035550100", b"   ");
-    let change = record(b"C3035550100", b"102");
+    let insert = record(b"I3035550100", b"100   ");
+    let unlock = record(b"U3035550100", b"      ");
+    let change = record(b"C3035550100", b"102   ");
     let file = [header(b'1'), insert, unlock, change, trailer(b'3')];
-    let mut script = Vec::new(rt.alloc());
+    let mut script = b"EDIT 1 1 ADD DENVER|CO||MAIN|ST||100|198|E|101\nNEXT\nNEXT\n".to_vec(
+        rt.alloc(),
+    )?;
     add_file(rt.alloc(), &mut script, &file)?;
-    script.extend_from_slice(b"NEXT\nNEXT\nNEXT\nNEXT\nNEXT\nBATCH\nASK a 1 3035550100 4\n")?;
+    script.extend_from_slice(b"NEXT\nNEXT\nNEXT\nNEXT\nNEXT\nBATCH\nASK a 1 3035550100 5\n")?;
     add_file(rt.alloc(), &mut script, &file)?;
-    script.extend_from_slice(b"BATCH\nASK a 1 3035550199 4")?;
+    script.extend_from_slice(b"BATCH\nASK a 1 3035550199 5")?;
     let ended = run(rt.alloc(), &script, &[], &[])?;
     let mut refused = change;
     put(&mut refused, 509, b"313");
@@ -176,7 +190,7 @@ fn sent(company: &[u8; 5], cycle: u8, function: u8, code: u16) -> SmallFile {
 fn add_small_file(alloc: Global, script: &mut Vec<u8>, file: &SmallFile) -> Result<(), Fail> {
     let company = file.company;
     let mut first = header(file.cycle);
-    let mut only = record(b"I3035550100", b"100");
+    let mut only = record(b"I3035550100", b"100   ");
     let mut last = trailer(b'1');
     only[0] = file.function;
     put(&mut first, 10, &company);
@@ -205,13 +219,13 @@ fn add_told(alloc: Global, told: &mut Vec<u8>, file: &SmallFile, booked: usize) 
     Ok(())
 }
 
-const MOVED: &[u8] = b"ANSWER 8 101
+const MOVED: &[u8] = b"ANSWER 9 107
 TN 3035550100 CLASS 1 TYPE 0
 NAME JOHN SMITH
 ADDR 100 MAIN ST
 CITY DENVER CO
 LOC
-ESN CO XYZ02 LOCKED
+ESN 00101 CO XYZ02 LOCKED
 ";
 
 // A number moves from a donor company to a recipient company, and what either may do to it before and
@@ -235,19 +249,221 @@ fn a_number_moves(rt: HostRuntime) -> Result<(), Fail> {
         sent(b"XYZ02", b'8', b'D', 0),
         sent(b"XYZ02", b'9', b'U', 307),
     ];
-    let mut script = Vec::new(rt.alloc());
-    let mut expected = Vec::new(rt.alloc());
+    let mut script = STREET.to_vec(rt.alloc())?;
+    let mut expected = STREET_MADE.to_vec(rt.alloc())?;
     for (i, file) in files.iter().enumerate() {
         add_small_file(rt.alloc(), &mut script, file)?;
-        add_told(rt.alloc(), &mut expected, file, 2 * i)?;
+        add_told(rt.alloc(), &mut expected, file, 2 * i + 1)?;
         if i == 3 {
-            script.extend_from_slice(b"ASK a 1 3035550100 8\n")?;
+            script.extend_from_slice(b"ASK a 1 3035550100 9\n")?;
             expected.extend_from_slice(MOVED)?;
         }
     }
-    script.extend_from_slice(b"ASK a 1 3035550100 30\n")?;
-    expected.extend_from_slice(b"ANSWER 30 30\nTN 3035550100 NO RECORD FOUND\n")?;
+    script.extend_from_slice(b"ASK a 1 3035550100 31\n")?;
+    expected.extend_from_slice(b"ANSWER 31 30\nTN 3035550100 NO RECORD FOUND\n")?;
     let ended = run(rt.alloc(), &script, &[], &[])?;
+    assert_eq!(rt; ended.status, Status::Done);
+    assert_eq!(rt; ended.sink.bytes(), expected.as_slice());
+    Ok(())
+}
+
+// A record of the next number of a file, at this house of MAIN ST.
+fn at_house(last_digit: u8, house: &[u8; 6]) -> [u8; 512] {
+    let mut at = record(b"I3035550100", house);
+    at[10] = last_digit;
+    at
+}
+
+const STREETS: &[u8] = b"EDIT 1 2 ADD DENVER|CO||EDGE|ST||999999|999999|O|7
+BATCH
+EDIT 1 3 ADD DENVER|CO||ZERO|ST||0|0|E|8
+BATCH
+";
+
+const STREETS_MADE: &[u8] = b"READ EDIT 1 2
+EDITED 1 2 0 2
+READ EDIT 1 3
+EDITED 1 3 0 3
+READ FILE ABC01 1 6 0
+BOOKED 4 0
+BOOKED 5 203
+BOOKED 6 202
+BOOKED 7 201
+BOOKED 8 204
+BOOKED 9 0
+BOOKED 10 0
+COMPLETE ABC01 1 6 4
+ERRORS 3072
+";
+
+const AFTER_THE_ODD_SIDE: &[u8] = b"
+READ EDIT 1 4
+EDITED 1 4 0 4
+READ FILE ABC01 1 6 7
+COMPLETE ABC01 1 6 4
+ERRORS 3072
+";
+
+const AT_HOUSE_0: &[u8] = b"
+ANSWER 11 103
+TN 3035550105 CLASS 1 TYPE 0
+NAME JOHN SMITH
+ADDR ZERO ST
+CITY DENVER CO
+LOC
+ESN 00008 CO ABC01 LOCKED
+";
+
+// Six numbers: on the other side of MAIN ST, past its end, on a street that is not in the guide, with the
+// ESN of another range, and at the greatest house number and at none.
+fn addresses() -> [[u8; 512]; 6] {
+    let other_side = at_house(b'0', b"101   ");
+    let past_the_end = at_house(b'1', b"199   ");
+    let mut unknown_street = at_house(b'2', b"100   ");
+    put(&mut unknown_street, 28, b"OAK ");
+    let mut other_esn = at_house(b'3', b"100   ");
+    put(&mut other_esn, 226, b"00102");
+    let mut edge = at_house(b'4', b"999999");
+    put(&mut edge, 28, b"EDGE");
+    let mut zero = at_house(b'5', b"      ");
+    put(&mut zero, 28, b"ZERO");
+    [
+        other_side,
+        past_the_end,
+        unknown_street,
+        other_esn,
+        edge,
+        zero,
+    ]
+}
+
+// A record in an error file.
+fn refused(record: &[u8; 512], code: &[u8; 3]) -> [u8; 512] {
+    let mut refused = *record;
+    put(&mut refused, 509, code);
+    refused
+}
+
+// Each code of the address check, and the edges of house numbers. A range that would hold a refused
+// record changes nothing in the error file of the file that was booked before it.
+#[test]
+fn addresses_are_checked(rt: HostRuntime) -> Result<(), Fail> {
+    let [first, second, third, fourth, fifth, sixth] = addresses();
+    let (top, end) = (header(b'1'), trailer(b'6'));
+    let file = [top, first, second, third, fourth, fifth, sixth, end];
+    let mut script = STREET.to_vec(rt.alloc())?;
+    script.extend_from_slice(STREETS)?;
+    add_file(rt.alloc(), &mut script, &file)?;
+    script.extend_from_slice(b"NEXT\nNEXT\nNEXT\nNEXT\nNEXT\nNEXT\nNEXT\nBATCH\n")?;
+    script.extend_from_slice(b"EDIT 1 4 ADD DENVER|CO||MAIN|ST||101|199|O|101\nBATCH\n")?;
+    add_file(rt.alloc(), &mut script, &file)?;
+    script.extend_from_slice(b"BATCH\nASK a 1 3035550105 11\n")?;
+    let ended = run(rt.alloc(), &script, &[], &[])?;
+    let errors = [
+        top,
+        refused(&first, b"203"),
+        refused(&second, b"202"),
+        refused(&third, b"201"),
+        refused(&fourth, b"204"),
+        trailer(b'4'),
+    ];
+    let mut expected = STREET_MADE.to_vec(rt.alloc())?;
+    expected.extend_from_slice(STREETS_MADE)?;
+    add_records(&mut expected, &errors)?;
+    expected.extend_from_slice(AFTER_THE_ODD_SIDE)?;
+    add_records(&mut expected, &errors)?;
+    expected.extend_from_slice(AT_HOUSE_0)?;
+    assert_eq!(rt; ended.status, Status::Done);
+    assert_eq!(rt; ended.sink.bytes(), expected.as_slice());
+    Ok(())
+}
+
+const EDITS: &[u8] = b"EDIT 1 3 ADD DENVER|CO||OAK|ST||100|198|E|101
+EDIT 1 2 SPLIT 1 149 102
+BATCH
+ASK a 1 3035550101 0
+EDIT 1 3 SPLIT 1 198 103
+BATCH
+EDIT 1 4 RETIRE 2
+BATCH
+EDIT 1 5 RENUMBER 2 -52
+BATCH
+EDIT 1 6 RENUMBER 2 -51
+BATCH
+EDIT 1 7 RENUMBER 1 -102
+BATCH
+EDIT 1 8 RENUMBER 2 +50
+BATCH
+EDIT 1 9 SETESN 2 7
+BATCH
+ASK a 1 3035550101 0
+EDIT 1 10 SETESN 1 0
+BATCH
+EDIT 1 11 RETIRE 7
+BATCH
+EDIT 1 11 RETIRE 7
+EDIT 1 11 RETIRE 8
+EDIT 1 10 RETIRE 7
+EDIT 2 1 RENUMBER 1 +0
+BATCH
+";
+
+const EDITED: &[u8] = b"GAP 2
+READ EDIT 1 2
+EDITED 1 2 0 2
+ANSWER 5 107
+TN 3035550101 CLASS 1 TYPE 0
+NAME JOHN SMITH
+ADDR 150 MAIN ST
+CITY DENVER CO
+LOC
+ESN 00102 CO ABC01 LOCKED
+READ EDIT 1 3
+EDITED 1 3 505 0
+READ EDIT 1 4
+EDITED 1 4 504 3035550101
+READ EDIT 1 5
+EDITED 1 5 502 1
+READ EDIT 1 6
+EDITED 1 6 507 0
+READ EDIT 1 7
+EDITED 1 7 506 0
+READ EDIT 1 8
+EDITED 1 8 0 1
+READ EDIT 1 9
+EDITED 1 9 0 1
+ANSWER 12 107
+TN 3035550101 CLASS 1 TYPE 0
+NAME JOHN SMITH
+ADDR 200 MAIN ST
+CITY DENVER CO
+LOC
+ESN 00007 CO ABC01 LOCKED
+READ EDIT 1 10
+EDITED 1 10 508 0
+READ EDIT 1 11
+EDITED 1 11 501 0
+READ EDIT 1 11
+DIFFERS b3f68cf84a61644e3a67ac9de52ca3662d6edfbf8324d277ac95c01282af1a71 0270a1c8fc9277abb81863414d2d3ff8c307da849f9d622485aaaccc4b206dbe
+TOO OLD 11
+READ EDIT 2 1
+EDITED 2 1 0 1
+";
+
+// Each edit of the street guide with each of its codes but two, and the rows that they change.
+#[test]
+fn edits_change_guide_and_rows(rt: HostRuntime) -> Result<(), Fail> {
+    let first = at_house(b'0', b"100   ");
+    let second = at_house(b'1', b"150   ");
+    let file = [header(b'1'), first, second, trailer(b'2')];
+    let mut script = STREET.to_vec(rt.alloc())?;
+    add_file(rt.alloc(), &mut script, &file)?;
+    script.extend_from_slice(b"NEXT\nNEXT\nNEXT\n")?;
+    script.extend_from_slice(EDITS)?;
+    let ended = run(rt.alloc(), &script, &[], &[])?;
+    let mut expected = STREET_MADE.to_vec(rt.alloc())?;
+    expected.extend_from_slice(b"READ FILE ABC01 1 2 0\nBOOKED 2 0\nBOOKED 3 0\nBOOKED 4 0\n")?;
+    expected.extend_from_slice(EDITED)?;
     assert_eq!(rt; ended.status, Status::Done);
     assert_eq!(rt; ended.sink.bytes(), expected.as_slice());
     Ok(())
@@ -289,8 +505,8 @@ fn add_letters(script: &mut Vec<u8>, line: &[u8], len: usize) -> Result<(), Fail
 // file leaves the job that was.
 #[test]
 fn files_with_a_wrong_frame(rt: HostRuntime) -> Result<(), Fail> {
-    let one = record(b"I3035550100", b"100");
-    let two = record(b"I3035550101", b"101");
+    let one = record(b"I3035550100", b"100   ");
+    let two = record(b"I3035550101", b"101   ");
     let mut script = Vec::new(rt.alloc());
     add_file(rt.alloc(), &mut script, &[header(b'1'), trailer(b'0')])?;
     add_file(
@@ -317,28 +533,30 @@ FRAME LENGTH 0
     Ok(())
 }
 
-const OUT_OF_TURN: &[u8] = b"GAP 1
+const OUT_OF_TURN: &[u8] = b"READ EDIT 1 1
+EDITED 1 1 0 1
+GAP 1
 READ FILE ABC01 1 1 0
-BOOKED 1 0
 BOOKED 2 0
+BOOKED 3 0
 GAP 2
 DIFFERS f035c2d3a4340f84d869f7f1180f814f4e3405a0d81c561d61b80d567b0bc1f6 f29181b02fe36e4a67f2d15f2e5c156cf394f0266827d00f5aef9eef1e1cf565
 READ FILE ABC01 2 0 0
-BOOKED 3 0
-READ FILE ABC01 3 0 0
 BOOKED 4 0
-READ FILE ABC01 4 0 0
+READ FILE ABC01 3 0 0
 BOOKED 5 0
-READ FILE ABC01 5 0 0
+READ FILE ABC01 4 0 0
 BOOKED 6 0
-READ FILE ABC01 6 0 0
+READ FILE ABC01 5 0 0
 BOOKED 7 0
-READ FILE ABC01 7 0 0
+READ FILE ABC01 6 0 0
 BOOKED 8 0
-READ FILE ABC01 8 0 0
+READ FILE ABC01 7 0 0
 BOOKED 9 0
-READ FILE ABC01 9 0 0
+READ FILE ABC01 8 0 0
 BOOKED 10 0
+READ FILE ABC01 9 0 0
+BOOKED 11 0
 TOO OLD 2
 ";
 
@@ -346,10 +564,10 @@ TOO OLD 2
 // kept.
 #[test]
 fn files_out_of_turn(rt: HostRuntime) -> Result<(), Fail> {
-    let one = record(b"I3035550100", b"100");
+    let one = record(b"I3035550100", b"100   ");
     let mut other = one;
     put(&mut other, 276, b"x");
-    let mut script = Vec::new(rt.alloc());
+    let mut script = STREET.to_vec(rt.alloc())?;
     add_file(rt.alloc(), &mut script, &[header(b'2'), one, trailer(b'1')])?;
     add_file(rt.alloc(), &mut script, &[header(b'1'), one, trailer(b'1')])?;
     script.extend_from_slice(b"NEXT\nNEXT\n")?;
@@ -382,7 +600,7 @@ TN 3035550100 NO RECORD FOUND
 // A line outside the grammar is the first of its kind, and the replies before it stand.
 #[test]
 fn lines_outside_the_grammar(rt: HostRuntime) -> Result<(), Fail> {
-    let cases: [&[u8]; 14] = [
+    let cases: [&[u8]; 19] = [
         b"HELLO\n",
         b"\n",
         b"ASK b 1 3035550100 0\n",
@@ -394,6 +612,11 @@ fn lines_outside_the_grammar(rt: HostRuntime) -> Result<(), Fail> {
         b"ASK a 1 3035550100 0 \n",
         b"LINE\n",
         b"NEXT \n",
+        b"EDIT 0 1 RETIRE 1\n",
+        b"EDIT 65 1 RETIRE 1\n",
+        b"EDIT 1 1000000000 RETIRE 1\n",
+        b"EDIT 1 1 RETIRE 1 \n",
+        b"EDIT 1 1 SPLIT 1 149\n",
         b"FILE 5\nAAAA",
         b"FILE 4\nAAAA.\n",
         b"FILE 16777217\nA\n",

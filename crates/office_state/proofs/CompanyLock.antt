@@ -1,17 +1,14 @@
 -- The lock of a company: what a record of a company's file does to a row of another owner.
-use Rattle.std.proofs.Common.{◌≡◌, inl, inr, ℕ, nat_lt, Bool, true, false, cond, List, [], ◌∷◌, refl, ap, sym, ◌∙◌, arith, Option, Some, None, IsSome, Result, Ok, Err}
+use Rattle.std.proofs.Common.{◌≡◌, inl, inr, ℕ, true, false, cond, List, refl, ap, sym, ◌∙◌, arith, Option, Some, None, IsSome, Result, Ok, Err}
 use Rattle.std.specs.Option.{option_map_or, unwrap_or}
-use Rattle.std.specs.List.{AllByRecursion, list_all}
 use Rattle.std.specs.FinMap.{get, insert, remove, get-insert, get-remove}
 use Rattle.std.specs.Str.{bytes_eq}
-use Rattle.std.proofs.lemmas.Bool.{false_from_ne_true, not-false}
-use Rattle.std.proofs.lemmas.Bool.Decides.{nat_tests}
+use Rattle.std.proofs.lemmas.Bool.{false_from_ne_true}
 use Rattle.std.proofs.lemmas.Cmp.{nat_list_cmp_total}
 use Rattle.std.proofs.lemmas.Map.Text.{is_eq-slice_cmp}
 use Rattle.std.proofs.lemmas.Slice.Eq.{bytes_eq-Decides}
 use Rattle.ali_base.specs.CivilDay.{CivilDay, day_of}
 use Rattle.ali_record.specs.Layout.{field_of, byte_of}
-use Rattle.ali_record.specs.RecordReading.{reading_code, conditions, first_code}
 use Rattle.ali_record.specs.declared.field.Field.TheVariants as field
 use Rattle.number_life.specs.declared.act.LifeAct.{LifeAct}
 use Rattle.number_life.specs.declared.act.LifeAct.TheVariants.{Store, Remove, Unlock}
@@ -20,31 +17,10 @@ use Rattle.number_life.specs.declared.function.Function.TheVariants as function
 use Rattle.number_life.specs.declared.row.Row.{Row}
 use Rattle.number_life.specs.NumberLife.{life, life_of, function_of, others, owner, standing_of}
 use Rattle.office_state.specs.OfficeState.{State}
-use Rattle.office_state.specs.Verdict.{record_act, table_after, within_limit}
+use Rattle.office_state.specs.Verdict.{record_act, stored, table_after}
+use Rattle.office_state.proofs.RecordActs.{judged, read_tells}
 use Rattle.office_state.proofs.Steps.{one_or_two}
-
--- where the code is 0, none of the conditions holds
-none_holds : (cs : List (Bool × ℕ)) → list_all (λ c. nat_lt 0 c.1) cs ≡ true → first_code cs ≡ 0 → AllByRecursion (λ c. c.0 ≡ false) cs
-none_holds [] positive h = tt
-none_holds ((true, n) ∷ cs) positive h = absurd (grind (arith, nat_tests))
-none_holds ((false, n) ∷ cs) positive h = (refl, none_holds cs (grind (arith, nat_tests)) h)
-
--- a record that is read in a company's file is of that company
-its_company : (company bytes : List ℕ) → reading_code company bytes ≡ 0 → field_of bytes field.Company ≡ company
-unfolding reading_code conditions
-its_company company bytes h =
-    let none = none_holds (conditions company bytes) refl h in
-    (bytes_eq-Decides (field_of bytes field.Company) company).0 (not-false _ none.1.1.1.1.0)
-
-act_within : (s : State) (letter : ℕ) (r : Result LifeAct ℕ) (act : LifeAct) → within_limit s letter r ≡ Ok act → r ≡ Ok act
-act_within s letter (Ok done) act h = grind arith
-act_within s letter (Err code) act h = h
-
--- what is done with a record is what the life of its number says
-by_life : (s : State) (company bytes : List ℕ) (act : LifeAct) → record_act s company bytes ≡ Ok act
-    → (reading_code company bytes ≡ 0) × (life_of (get s.table (field_of bytes field.TelephoneNumber)) bytes ≡ Ok act)
-unfolding record_act
-by_life s company bytes act h = grind (arith, nat_tests, act_within)
+use Rattle.office_state.proofs.StoredRecords.{HaveFiveDigits, stored-company}
 
 -- the row was unlocked, and the function migrates it
 abbrev Migrates : Option CivilDay → Function → LifeAct → Type 0
@@ -78,21 +54,24 @@ others_life found unlocked bytes act other h = at (day_of (field_of bytes field.
 unlike : (a b : List ℕ) → (a ≡ b → ⊥) → bytes_eq a b ≡ false
 unlike a b differ = false_from_ne_true _ (λ e. differ ((bytes_eq-Decides a b).0 e))
 
--- a row after what is done with a record of its number
+-- a row after what is done with a record of its number, which is stored so
 row_after : List ℕ → Row → Result LifeAct ℕ → Option Row
-row_after bytes row (Err code) = Some row
-row_after bytes row (Ok Store) = Some (record { rec = bytes; unlocked = None })
-row_after bytes row (Ok Remove) = None
-row_after bytes row (Ok (Unlock day)) = Some (record row { unlocked = Some day })
+row_after rec row (Err code) = Some row
+row_after rec row (Ok Store) = Some (record { rec = rec; unlocked = None })
+row_after rec row (Ok Remove) = None
+row_after rec row (Ok (Unlock day)) = Some (record row { unlocked = Some day })
 
 -- a number with a row, and a record of a company's file
 module _ (s : State) (tn : List ℕ) (row : Row) (company bytes : List ℕ) (held : get s.table tn ≡ Some row) where
   abbrev number : List ℕ
   number = field_of bytes field.TelephoneNumber
 
+  abbrev rec : List ℕ
+  rec = stored s.guide.ranges bytes
+
   -- the row of the number after the record
   abbrev later : Result LifeAct ℕ → Option Row
-  later r = get (table_after s.table bytes r) tn
+  later r = get (table_after s.guide.ranges s.table bytes r) tn
 
   inserted : (new : Row) → get (insert s.table number new) tn ≡ cond (bytes_eq tn number) (Some new) (Some row)
   inserted new = get-insert nat_list_cmp_total s.table number new tn ∙ rw (is_eq-slice_cmp tn number, held) refl
@@ -108,7 +87,7 @@ module _ (s : State) (tn : List ℕ) (row : Row) (company bytes : List ℕ) (hel
     this : bytes_eq tn number ≡ true
     this = (bytes_eq-Decides tn number).1 same
 
-    there : (r : Result LifeAct ℕ) → later r ≡ row_after bytes row r
+    there : (r : Result LifeAct ℕ) → later r ≡ row_after rec row r
     unfolding row_after
     there (Err code) = held
     there (Ok Store) = inserted _ ∙ rw this refl
@@ -117,23 +96,24 @@ module _ (s : State) (tn : List ℕ) (row : Row) (company bytes : List ℕ) (hel
 
     others_act : (owner row ≡ company → ⊥) → (act : LifeAct) → record_act s company bytes ≡ Ok act → Migrates row.unlocked (function_of (byte_of bytes field.Function)) act
     others_act differ act h =
-        let read = by_life s company bytes act h in
-        others_life (get s.table number) row.unlocked bytes act (rw (found, its_company company bytes read.0, unlike (owner row) company differ) refl) read.1
+        let j = judged s company bytes act h in
+        others_life (get s.table number) row.unlocked bytes act (rw (found, (read_tells company bytes j.reading).of_company, unlike (owner row) company differ) refl) j.life
 
-    locked_there : row.unlocked ≡ None → (owner row ≡ company → ⊥) → (r : Result LifeAct ℕ) → record_act s company bytes ≡ r → row_after bytes row r ≡ Some row
+    locked_there : row.unlocked ≡ None → (owner row ≡ company → ⊥) → (r : Result LifeAct ℕ) → record_act s company bytes ≡ r → row_after rec row r ≡ Some row
     unfolding row_after
     locked_there locked differ (Err code) h = refl
     locked_there locked differ (Ok act) h = absurd (let unlocked = others_act differ act h in cc (unlocked.0, locked))
 
-    owner_there : (new : Row) → (owner new ≡ owner row → ⊥) → (r : Result LifeAct ℕ) → record_act s company bytes ≡ r → row_after bytes row r ≡ Some new
+    owner_there : (new : Row) → HaveFiveDigits s.guide.ranges → (owner new ≡ owner row → ⊥) → (r : Result LifeAct ℕ) → record_act s company bytes ≡ r → row_after rec row r ≡ Some new
         → IsSome row.unlocked × (function_of (byte_of bytes field.Function) ≡ function.Migrate) × (owner new ≡ company) × (new.unlocked ≡ None)
     unfolding row_after
-    owner_there new differ (Err code) h e = absurd (differ (ap (λ o. owner (unwrap_or o new)) (sym e)))
-    owner_there new differ (Ok Remove) h e = absurd (cc e)
-    owner_there new differ (Ok (Unlock day)) h e = absurd (differ (ap (λ o. owner (unwrap_or o new)) (sym e)))
-    owner_there new differ (Ok Store) h e =
+    owner_there new small differ (Err code) h e = absurd (differ (ap (λ o. owner (unwrap_or o new)) (sym e)))
+    owner_there new small differ (Ok Remove) h e = absurd (cc e)
+    owner_there new small differ (Ok (Unlock day)) h e = absurd (differ (ap (λ o. owner (unwrap_or o new)) (sym e)))
+    owner_there new small differ (Ok Store) h e =
         let is = ap (λ o. unwrap_or o new) (sym e) in
-        let company_is : owner new ≡ company = ap owner is ∙ its_company company bytes (by_life s company bytes Store h).0 in
+        let read = read_tells company bytes (judged s company bytes Store h).reading in
+        let company_is : owner new ≡ company = ap owner is ∙ stored-company s.guide.ranges bytes small (omega (arith, read.long)) ∙ read.of_company in
         let act = others_act (λ own. differ (company_is ∙ sym own)) Store h in
         (act.0, act.1, company_is, ap (λ (r : Row). r.unlocked) is)
 
@@ -153,7 +133,7 @@ module _ (s : State) (tn : List ℕ) (row : Row) (company bytes : List ℕ) (hel
   pub locked_stays : row.unlocked ≡ None → (owner row ≡ company → ⊥) → later (record_act s company bytes) ≡ Some row
   locked_stays locked differ = elim (one_or_two tn number) [ inl same ↦ there same _ ∙ locked_there same locked differ _ refl | inr other ↦ elsewhere other _ ]
 
-  -- a row gets another owner only by a migrate in that company's file, and it was unlocked before and is locked then
-  pub owner_changes : (new : Row) → later (record_act s company bytes) ≡ Some new → (owner new ≡ owner row → ⊥)
+  -- where emergency service numbers have five digits, a row gets another owner only by a migrate in that company's file, and it was unlocked before and is locked then
+  pub owner_changes : (new : Row) → HaveFiveDigits s.guide.ranges → later (record_act s company bytes) ≡ Some new → (owner new ≡ owner row → ⊥)
       → IsSome row.unlocked × (function_of (byte_of bytes field.Function) ≡ function.Migrate) × (owner new ≡ company) × (new.unlocked ≡ None)
-  owner_changes new e differ = elim (one_or_two tn number) [ inl same ↦ owner_there same new differ _ refl (sym (there same _) ∙ e) | inr other ↦ absurd (differ (ap (λ o. owner (unwrap_or o new)) (sym e ∙ elsewhere other _))) ]
+  owner_changes new small e differ = elim (one_or_two tn number) [ inl same ↦ owner_there same new small differ _ refl (sym (there same _) ∙ e) | inr other ↦ absurd (differ (ap (λ o. owner (unwrap_or o new)) (sym e ∙ elsewhere other _))) ]

@@ -9,7 +9,7 @@ use Rattle.sequence_once.specs.declared.standing.Standing.TheVariants.{Complete}
 use Rattle.sequence_once.proofs.Runs.{run_push}
 use Rattle.sequence_once.proofs.Laws.{own_after_open, own_after_note}
 use Rattle.office_entry.specs.declared.entry.Entry.{Entry}
-use Rattle.office_entry.specs.declared.entry.Entry.TheVariants.{Open, Line}
+use Rattle.office_entry.specs.declared.entry.Entry.TheVariants.{Open, Line, Edit}
 use Rattle.office_state.specs.declared.limits.Limits.{Limits}
 use Rattle.office_state.specs.OfficeState.{State, empty_state}
 use Rattle.office_state.specs.Due.{IsDue}
@@ -71,8 +71,10 @@ keeps_noted s company next line bytes due cycle k finished keeps =
     }
 
 keeps_own : (s : State) (e : Entry) → IsSound s.cycles → IsDue s e → (cycle : ℕ) (k : CycleRecord) → is_finished k ≡ true → Keeps cycle k (of_company (company_of e) s.cycles.kept) → let later = after s e in Keeps cycle k (of_company (company_of e) later.cycles.kept)
+unfolding after
 keeps_own s (Open company next count day digest) sound due cycle k finished keeps = keeps_opened s sound company next count day digest due cycle k keeps
 keeps_own s (Line company next line bytes) sound due cycle k finished keeps = keeps_noted s company next line bytes due cycle k finished keeps
+keeps_own s (Edit editor serial edit) sound due cycle k finished keeps = keeps
 
 keeps_after : (s : State) (e : Entry) → IsSound s.cycles → IsDue s e → (company : List ℕ) (cycle : ℕ) (k : CycleRecord) → is_finished k ≡ true → Keeps cycle k (of_company company s.cycles.kept) → let later = after s e in Keeps cycle k (of_company company later.cycles.kept)
 keeps_after s e sound due company cycle k finished keeps = at (one_or_two company (company_of e))
@@ -86,7 +88,7 @@ keeps_after s e sound due company cycle k finished keeps = at (one_or_two compan
 -- and after any entries that are due
 pub keeps_fold : (s : State) (more : List Entry) → IsSound s.cycles → AreDue s more → (company : List ℕ) (cycle : ℕ) (k : CycleRecord) → is_finished k ≡ true → Keeps cycle k (of_company company s.cycles.kept) → let later = fold after s more in Keeps cycle k (of_company company later.cycles.kept)
 keeps_fold s [] sound due company cycle k finished keeps = keeps
-keeps_fold s (e ∷ more) sound due company cycle k finished keeps = keeps_fold (after s e) more (sound_after s e sound due.0) due.1 company cycle k finished (keeps_after s e sound due.0 company cycle k finished keeps)
+keeps_fold s (e ∷ more) sound due company cycle k finished keeps = keeps_fold (after s e) more (sound_after s e sound due.1) due.2 company cycle k finished (keeps_after s e sound due.1 company cycle k finished keeps)
 
 same_codes : (s : State) (more : List Entry) → IsSound s.cycles → AreDue s more → (company : List ℕ) (cycle : ℕ) (digest : List ℕ) → standing_of s.cycles company cycle digest ≡ Ok Complete → let later = fold after s more in standing_of later.cycles company cycle digest ≡ Ok Complete → codes_of company cycle later.cycles.kept ≡ codes_of company cycle s.cycles.kept
 same_codes s more sound due company cycle digest first second =

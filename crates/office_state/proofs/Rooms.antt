@@ -14,10 +14,7 @@ use Rattle.number_life.specs.declared.standing.Standing.TheVariants.{Absent}
 use Rattle.number_life.specs.declared.row.Row.{Row}
 use Rattle.number_life.specs.NumberLife.{life, life_of, function_of}
 use Rattle.number_table.specs.NumberTable.{NumberTable}
-use Rattle.ali_record.specs.RecordReading.{reading_code}
-use Rattle.office_state.specs.OfficeState.{State}
 use Rattle.office_state.specs.Rooms.{HasRoom}
-use Rattle.office_state.specs.Verdict.{record_act, within_limit}
 
 -- a number without a row is stored by an insert alone
 only_inserts : (f : Function) (day : CivilDay) → life f Absent day ≡ Ok Store → f ≡ function.Insert
@@ -53,19 +50,7 @@ in_room table None bytes most h full small =
 
 -- where the limit of numbers is not reached, a record that is stored has room
 pub has_room : (table : NumberTable) (bytes : List ℕ) (most : ℕ) (act : LifeAct) → life_of (get table (field_of bytes field.TelephoneNumber)) bytes ≡ Ok act
-    → ((byte_of bytes field.Function == 73) && nat_le most (len table)) ≡ false → most < 2 ^ 32 → HasRoom table bytes act
+    → ((byte_of bytes field.Function == 73) && nat_le most (len table)) ≡ false → most < 2 ^ 32 → HasRoom table (field_of bytes field.TelephoneNumber) act
 has_room table bytes most Store h full small = in_room table (get table (field_of bytes field.TelephoneNumber)) bytes most h full small
 has_room table bytes most Remove h full small = tt
 has_room table bytes most (Unlock day) h full small = tt
-
--- what is done with a record that was read and judged, where the limit is not reached
-pub acts : (s : State) (company bytes : List ℕ) (act : LifeAct) → reading_code company bytes ≡ 0 → life_of (get s.table (field_of bytes field.TelephoneNumber)) bytes ≡ Ok act
-    → ((byte_of bytes field.Function == 73) && nat_le s.most_numbers (len s.table)) ≡ false → s.most_numbers < 2 ^ 32 → (record_act s company bytes ≡ Ok act) × HasRoom s.table bytes act
-unfolding record_act
-acts s company bytes act read judged full small =
-    let taken : (reading_code company bytes == 0) ≡ true = ap (λ n. n == 0) read in (
-      ap (λ b. cond b (within_limit s (byte_of bytes field.Function) (life_of (get s.table (field_of bytes field.TelephoneNumber)) bytes)) (Err (reading_code company bytes))) taken
-          ∙ ap (within_limit s (byte_of bytes field.Function)) judged
-          ∙ ap (λ b. cond b (Err 509) (Ok act)) full,
-      has_room s.table bytes s.most_numbers act judged full small,
-    )

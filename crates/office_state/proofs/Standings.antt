@@ -27,7 +27,7 @@ use Rattle.office_state.proofs.Histories.{sound_legal}
 pub sound_state : (limits : Limits) (history : List Entry) → IsLegal limits history → let later = state limits history in IsSound later.cycles
 sound_state = sound_legal
 
--- a file that has a standing, and is not new, has its cycle kept
+-- a standing other than new passes the tests for the next cycle and for those beyond it
 kept_only : (next full beyond : Bool) (l g : ℕ) (rest : Result Standing CycleFault) (r : Standing) → (New ≡ r → ⊥) → (if next then (if full then Err (CompaniesFull l) else Ok New) else (if beyond then Err (Gap g) else rest)) ≡ Ok r → (next ≡ false) × (beyond ≡ false) × (rest ≡ Ok r)
 kept_only true true beyond l g rest r old e = cc
 kept_only true false beyond l g rest r old e = absurd (old cc)
@@ -58,6 +58,7 @@ kept_there : (s : CyclesState) (company : List ℕ) (cycle : ℕ) (digest : List
 kept_there s company cycle digest r None oldest e low stands = cc
 kept_there s company cycle digest r (Some k) oldest e low stands = record { kept = k; there = e; low = low; stands = stands }
 
+-- a file that has a standing other than new has its cycle kept
 pub kept_file : (s : CyclesState) (company : List ℕ) (cycle : ℕ) (digest : List ℕ) (r : Standing) → (New ≡ r → ⊥) → standing_of s company cycle digest ≡ Ok r → KeptFile s company cycle digest r
 unfolding standing_of
 kept_file s company cycle digest r old e =
@@ -71,6 +72,7 @@ finished_means true true n kept sent e = (refl, refl)
 finished_means true false n kept sent e = cc
 finished_means false done n kept sent e = cc
 
+-- the cycle of a complete file is finished
 pub kept_finished : (k : CycleRecord) (digest : List ℕ) → repeated k digest ≡ Ok Complete → is_finished k ≡ true
 kept_finished k digest e = (finished_means (bytes_eq k.digest digest) (is_finished k) (length k.codes + 1) k.digest digest e).1
 
@@ -93,9 +95,6 @@ module _ (s : CyclesState) (sound : IsSound s) (company : List ℕ) (k : CycleRe
   pub count_of_last : count_of company k.cycle s.kept ≡ Some k.count
   count_of_last = ap (option_map (λ (j : CycleRecord). j.count)) last_found
 
-  pub codes_of_last : codes_of company k.cycle s.kept ≡ Some k.codes
-  codes_of_last = ap (option_map (λ (j : CycleRecord). j.codes)) last_found
-
   pub standing_of_last : (digest : List ℕ) → standing_of s company k.cycle digest ≡ repeated k digest
   unfolding standing_of
   standing_of_last digest =
@@ -117,38 +116,21 @@ module _ (s : State) (sound : IsSound s.cycles) (company : List ℕ) (cycle coun
       let none : (0 == count) ≡ (count == 0) = grind (arith, nat_tests) in
       standing_of_last later.cycles (sound_after s (Open company cycle count day digest) sound new) company k (last_opened s sound company cycle count day digest) digest ∙ repeats k digest refl ∙ ap (λ (b : Bool). let r : Result Standing CycleFault = (if b then Ok Complete else Ok (Resume 1)) in r) none
 
-  pub complete_after_open : count ≡ 0 → let later = after s (Open company cycle count day digest) in standing_of later.cycles company cycle digest ≡ Ok Complete
-  complete_after_open none =
-      let yes : (count == 0) ≡ true = grind (arith, nat_tests) in
-      standing_after_open ∙ ap (λ (b : Bool). let r : Result Standing CycleFault = (if b then Ok Complete else Ok (Resume 1)) in r) yes
-
-  pub resume_after_open : 0 < count → let later = after s (Open company cycle count day digest) in standing_of later.cycles company cycle digest ≡ Ok (Resume 1)
-  resume_after_open some =
-      let other : (count == 0) ≡ false = grind (arith, nat_tests) in
-      standing_after_open ∙ ap (λ (b : Bool). let r : Result Standing CycleFault = (if b then Ok Complete else Ok (Resume 1)) in r) other
-
-  -- its lines are counted, and it has no codes yet
+  -- its lines are counted
   pub count_after_open : let later = after s (Open company cycle count day digest) in count_of company cycle later.cycles.kept ≡ Some count
   count_after_open =
       let later = after s (Open company cycle count day digest) in
       count_of_last later.cycles (sound_after s (Open company cycle count day digest) sound new) company (opened company cycle count digest) (last_opened s sound company cycle count day digest)
 
-  pub codes_after_open : let later = after s (Open company cycle count day digest) in codes_of company cycle later.cycles.kept ≡ Some []
-  codes_after_open =
-      let later = after s (Open company cycle count day digest) in
-      codes_of_last later.cycles (sound_after s (Open company cycle count day digest) sound new) company (opened company cycle count digest) (last_opened s sound company cycle count day digest)
-
 -- the kept cycle of a file that is resumed at a line: it is its company's last, and the line is due
 pub record Resumed (s : State) (company : List ℕ) (cycle : ℕ) (digest : List ℕ) (line : ℕ) : Type 0 where
   pub kept : CycleRecord
   pub is_last : last_of company s.cycles.kept ≡ Some kept
-  pub there : found cycle (of_company company s.cycles.kept) ≡ Some kept
   pub number : kept.cycle ≡ cycle
   pub same : kept.digest ≡ digest
   pub next : length kept.codes + 1 ≡ line
   pub room : line ≤ kept.count
   pub count : count_of company cycle s.cycles.kept ≡ Some kept.count
-  pub codes : codes_of company cycle s.cycles.kept ≡ Some kept.codes
   pub due : due_line s company ≡ Some (cycle, line)
 
 due_of_last : (o : Option CycleRecord) (k : CycleRecord) (cycle line : ℕ) → o ≡ Some k → k.cycle ≡ cycle → length k.codes + 1 ≡ line → line ≤ k.count → line_of_last o ≡ Some (cycle, line)
@@ -156,6 +138,7 @@ due_of_last o k cycle line last number next room =
     let yes : nat_lt (length k.codes) k.count ≡ true = grind (arith, nat_tests, next, room) in
     rw (last, yes, number, next) refl
 
+-- a file that is resumed has such a cycle
 pub resumed : (s : State) → IsSound s.cycles → (company : List ℕ) (cycle : ℕ) (digest : List ℕ) (line : ℕ) → standing_of s.cycles company cycle digest ≡ Ok (Resume line) → Resumed s company cycle digest line
 resumed s sound company cycle digest line e =
     let file = kept_file s.cycles company cycle digest (Resume line) (λ h. cc) e in
@@ -169,13 +152,11 @@ resumed s sound company cycle digest line e =
     record {
       kept = k;
       is_last = last;
-      there = file.there;
       number = number;
       same = (bytes_eq-Decides k.digest digest).0 facts.0;
       next = next;
       room = room;
       count = ap (option_map (λ (j : CycleRecord). j.count)) file.there;
-      codes = ap (option_map (λ (j : CycleRecord). j.codes)) file.there;
       due = due_of_last (last_of company s.cycles.kept) k cycle line last number next room;
     }
 
@@ -222,14 +203,6 @@ module _ (s : State) (sound : IsSound s.cycles) (company : List ℕ) (cycle : �
       let later = after s (Line company cycle line bytes) in
       subst (λ (n : ℕ). count_of company n later.cycles.kept ≡ Some before.kept.count) number_then (count_of_last later.cycles sound_then company noted_last last_then) ∙ sym before.count
 
-  -- it has the code of the line more
-  pub codes_after_line : let later = after s (Line company cycle line bytes) in codes_of company cycle later.cycles.kept ≡ option_map (λ codes. codes ++ code_of (record_act s company bytes) ∷ []) (codes_of company cycle s.cycles.kept)
-  unfolding noted_last
-  codes_after_line =
-      let later = after s (Line company cycle line bytes) in
-      subst (λ (n : ℕ). codes_of company n later.cycles.kept ≡ Some (before.kept.codes ++ code_of (record_act s company bytes) ∷ [])) number_then (codes_of_last later.cycles sound_then company noted_last last_then)
-      ∙ sym (ap (option_map (λ codes. codes ++ code_of (record_act s company bytes) ∷ [])) before.codes)
-
   -- the file is complete after its last line, and resumed at the next one otherwise
   pub standing_after_line : (count : ℕ) → count_of company cycle s.cycles.kept ≡ Some count → let later = after s (Line company cycle line bytes) in standing_of later.cycles company cycle digest ≡ (if line == count then Ok Complete else Ok (Resume (line + 1)))
   standing_after_line count e =
@@ -241,44 +214,13 @@ module _ (s : State) (sound : IsSound s.cycles) (company : List ℕ) (cycle : �
       ∙ ap (λ (b : Bool). let r : Result Standing CycleFault = (if b then Ok Complete else Ok (Resume (length noted_last.codes + 1))) in r) full
       ∙ ap (λ (n : ℕ). let r : Result Standing CycleFault = (if line == count then Ok Complete else Ok (Resume n)) in r) next_then
 
-  pub complete_after_line : count_of company cycle s.cycles.kept ≡ Some line → let later = after s (Line company cycle line bytes) in standing_of later.cycles company cycle digest ≡ Ok Complete
-  complete_after_line e =
-      let yes : (line == line) ≡ true = grind (arith, nat_tests) in
-      standing_after_line line e ∙ ap (λ (b : Bool). let r : Result Standing CycleFault = (if b then Ok Complete else Ok (Resume (line + 1))) in r) yes
-
-  pub resume_after_line : (count : ℕ) → count_of company cycle s.cycles.kept ≡ Some count → line < count → let later = after s (Line company cycle line bytes) in standing_of later.cycles company cycle digest ≡ Ok (Resume (line + 1))
-  resume_after_line count e more =
-      let other : (line == count) ≡ false = grind (arith, nat_tests) in
-      standing_after_line count e ∙ ap (λ (b : Bool). let r : Result Standing CycleFault = (if b then Ok Complete else Ok (Resume (line + 1))) in r) other
-
--- the kept cycle of a file that is complete
-pub record Completed (s : State) (company : List ℕ) (cycle : ℕ) (digest : List ℕ) : Type 0 where
-  pub kept : CycleRecord
-  pub there : found cycle (of_company company s.cycles.kept) ≡ Some kept
-  pub same : kept.digest ≡ digest
-  pub full : length kept.codes ≡ kept.count
-  pub count : count_of company cycle s.cycles.kept ≡ Some kept.count
-  pub codes : codes_of company cycle s.cycles.kept ≡ Some kept.codes
-
-pub completed : (s : State) (company : List ℕ) (cycle : ℕ) (digest : List ℕ) → standing_of s.cycles company cycle digest ≡ Ok Complete → Completed s company cycle digest
-completed s company cycle digest e =
-    let file = kept_file s.cycles company cycle digest Complete (λ h. cc) e in
-    let k = file.kept in
-    let facts = finished_means (bytes_eq k.digest digest) (is_finished k) (length k.codes + 1) k.digest digest file.stands in
-    let done : (length k.codes == k.count) ≡ true = facts.1 in
-    record {
-      kept = k;
-      there = file.there;
-      same = (bytes_eq-Decides k.digest digest).0 facts.0;
-      full = grind (arith, nat_tests);
-      count = ap (option_map (λ (j : CycleRecord). j.count)) file.there;
-      codes = ap (option_map (λ (j : CycleRecord). j.codes)) file.there;
-    }
-
 -- the codes of a finished cycle are as many as its lines
 pub complete_codes : (s : State) (company : List ℕ) (cycle : ℕ) (digest : List ℕ) → standing_of s.cycles company cycle digest ≡ Ok Complete → (count : ℕ) → count_of company cycle s.cycles.kept ≡ Some count → (codes : List ℕ) × (codes_of company cycle s.cycles.kept ≡ Some codes) × (length codes ≡ count)
 complete_codes s company cycle digest e count has =
-    let file = completed s company cycle digest e in
-    let lines : Some file.kept.count ≡ Some count = sym file.count ∙ has in
-    let number : file.kept.count ≡ count = cc in
-    (file.kept.codes, file.codes, file.full ∙ number)
+    let file = kept_file s.cycles company cycle digest Complete (λ h. cc) e in
+    let k = file.kept in
+    let done : (length k.codes == k.count) ≡ true = kept_finished k digest file.stands in
+    let counted : count_of company cycle s.cycles.kept ≡ Some k.count = ap (option_map (λ (j : CycleRecord). j.count)) file.there in
+    let lines : Some k.count ≡ Some count = sym counted ∙ has in
+    let full : length k.codes ≡ k.count = grind (arith, nat_tests) in
+    (k.codes, ap (option_map (λ (j : CycleRecord). j.codes)) file.there, full ∙ cc)

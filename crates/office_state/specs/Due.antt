@@ -2,12 +2,14 @@
 use Rattle.std.specs.Prelude.{◌≡◌, ℕ, ◌+◌, ◌==◌, ◌&&◌, nat_lt, List, length, Option, Some, None, Result, Ok, Err, if◌then◌else◌}
 use Rattle.sequence_once.specs.KeptCycles.{CycleRecord, last_of}
 use Rattle.sequence_once.specs.CycleStanding.{standing_of}
+use Rattle.sequence_once.specs.SerialStanding.{edit_of, last_serial, serial_standing}
 use Rattle.sequence_once.specs.declared.standing.Standing.{Standing}
 use Rattle.sequence_once.specs.declared.standing.Standing.TheVariants.{New, Resume, Complete}
 use Rattle.sequence_once.specs.declared.standing.CycleFault.{CycleFault}
 use Rattle.sequence_once.specs.declared.standing.CycleFault.TheVariants as fault
 use Rattle.office_entry.specs.declared.entry.Entry.{Entry}
-use Rattle.office_entry.specs.declared.entry.Entry.TheVariants.{Open, Line}
+use Rattle.office_entry.specs.declared.entry.Entry.TheVariants.{Open, Line, Edit}
+use Rattle.office_entry.specs.EditBytes.{edit_digest}
 use Rattle.office_state.specs.declared.due_fault.DueFault.{DueFault}
 use Rattle.office_state.specs.declared.due_fault.DueFault.TheVariants as due
 use Rattle.office_state.specs.OfficeState.{State}
@@ -24,17 +26,18 @@ line_of_last (Some k) = line_after k
 abbrev pub due_line : State → List ℕ → Option (ℕ × ℕ)
 due_line s company = line_of_last (last_of company s.cycles.kept)
 
--- an opening may be booked where its file is new, and a line where it is its company's next
+-- an opening may be booked where its file is new, a line where it is its company's next, and an edit where its serial is the one after its editor's last
 abbrev pub IsDue : State → Entry → Type 0
 IsDue s (Open company cycle count day digest) = standing_of s.cycles company cycle digest ≡ Ok New
 IsDue s (Line company cycle line bytes) = due_line s company ≡ Some (cycle, line)
+IsDue s (Edit editor serial edit) = serial ≡ last_serial (edit_of editor s.edits) + 1
 
 -- the cycle and the line that may be booked, 0 and 0 for none
 abbrev pub not_next : Option (ℕ × ℕ) → DueFault
 not_next None = due.NotNext 0 0
 not_next (Some next) = due.NotNext next.0 next.1
 
--- the fault of a file's standing
+-- the fault of the standing of a file or an edit
 abbrev pub standing_fault : CycleFault → DueFault
 standing_fault (fault.Gap cycle) = due.Gap cycle
 standing_fault (fault.Differs kept sent) = due.Differs kept sent
@@ -53,7 +56,15 @@ abbrev pub line_due : Option (ℕ × ℕ) → ℕ → ℕ → Result (Unit {0}) 
 line_due None cycle line = Err (not_next None)
 line_due (Some next) cycle line = if (next.0 == cycle) && (next.1 == line) then Ok tt else Err (not_next (Some next))
 
+-- an edit by its standing, which is never resumed
+abbrev pub edit_due : Result Standing CycleFault → Result (Unit {0}) DueFault
+edit_due (Ok New) = Ok tt
+edit_due (Ok (Resume line)) = Err due.Complete
+edit_due (Ok Complete) = Err due.Complete
+edit_due (Err f) = Err (standing_fault f)
+
 -- whether an entry may be booked next, or why not
 abbrev pub due_of : State → Entry → Result (Unit {0}) DueFault
 due_of s (Open company cycle count day digest) = opening_due (due_line s company) (standing_of s.cycles company cycle digest)
 due_of s (Line company cycle line bytes) = line_due (due_line s company) cycle line
+due_of s (Edit editor serial edit) = edit_due (serial_standing (edit_of editor s.edits) serial (edit_digest edit))

@@ -1,7 +1,8 @@
 -- The booked history: the entries that the office accepted into its order, with the refused ones among them.
 use Rattle.std.specs.Prelude.{◌≡◌, List, [], ◌∷◌, length, fold}
 use Rattle.office_entry.specs.declared.entry.Entry.{Entry}
-use Rattle.office_entry.specs.declared.entry.Entry.TheVariants.{Open, Line}
+use Rattle.office_entry.specs.declared.entry.Entry.TheVariants.{Open, Line, Edit}
+use Rattle.office_entry.specs.Entries.{IsEntry}
 use Rattle.office_state.specs.declared.limits.Limits.{Limits}
 use Rattle.office_state.specs.OfficeState.{State, OfficeState, empty_state}
 use Rattle.office_state.specs.Due.{IsDue}
@@ -14,18 +15,23 @@ state limits history = fold after (empty_state limits) history
 -- each of these entries, one after the other, may be booked next
 abbrev pub AreDue : State → List Entry → Type 0
 AreDue s [] = Unit {0}
-AreDue s (e ∷ entries) = IsDue s e × AreDue (after s e) entries
+AreDue s (e ∷ entries) = IsEntry e × IsDue s e × AreDue (after s e) entries
 
 -- a history in which each entry could be booked in the state of those before it
 abbrev pub IsLegal : Limits → List Entry → Type 0
 IsLegal limits history = AreDue (empty_state limits) history
 
--- two openings of one cycle, or one line twice
+-- two openings of one cycle, one line twice, or two edits with one serial of an editor
 abbrev pub Repeats : Entry → Entry → Type 0
 Repeats (Open c n count day digest) (Open d m count' day' digest') = (c ≡ d) × (n ≡ m)
 Repeats (Line c n line bytes) (Line d m line' bytes') = (c ≡ d) × (n ≡ m) × (line ≡ line')
+Repeats (Edit c n edit) (Edit d m edit') = (c ≡ d) × (n ≡ m)
 Repeats (Open c n count day digest) (Line d m line bytes) = ⊥
+Repeats (Open c n count day digest) (Edit d m edit) = ⊥
 Repeats (Line c n line bytes) (Open d m count day digest) = ⊥
+Repeats (Line c n line bytes) (Edit d m edit) = ⊥
+Repeats (Edit c n edit) (Open d m count day digest) = ⊥
+Repeats (Edit c n edit) (Line d m line bytes) = ⊥
 
 -- the office is the one after this history, which is legal
 pub record Represents (limits : Limits) (office : OfficeState) (history : List Entry) : Type 0 where

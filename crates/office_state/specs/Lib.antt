@@ -1,7 +1,10 @@
 pub mod OfficeState
+pub mod StoredState
+pub mod Soundness
 pub mod Due
 pub mod Verdict
 pub mod History
 pub mod AnswerForm
 pub mod Refusals
 pub mod Rooms
+pub mod EditReaders

@@ -7,20 +7,22 @@ use sequence_once::CycleFault;
 /// Why an entry may not be booked next.
 #[derive(Clone, Copy, Debug, PartialEq, Eq)]
 pub enum DueFault {
-    /// The cycle is too high; the number is the cycle that is due.
+    /// The cycle, or the serial of an edit, is too high; the number is the one that is due.
     Gap(u32),
-    /// The cycle is kept with the digest of another file.
+    /// The cycle is kept with the digest of another file, or the serial is the editor's last, of another
+    /// edit.
     Differs {
         /// The digest that is kept.
         kept: [u8; 32],
-        /// The digest of this file.
+        /// The digest of this file or edit.
         sent: [u8; 32],
     },
-    /// The cycle is no longer kept; the number is the oldest kept cycle of the company.
+    /// The cycle is no longer kept, and the number is the oldest kept cycle of the company; or the serial
+    /// is below the editor's last, which is the number.
     TooOld(u32),
     /// The company is new, and there are as many companies as this limit.
     CompaniesFull(u32),
-    /// The cycle is finished, with this digest.
+    /// The cycle is finished, or the edit was booked, with this digest.
     Complete,
     /// The line is not its company's next, or the cycle is open already. These are the cycle and the
     /// line that may be booked, 0 and 0 where the company's last cycle is finished.
@@ -31,7 +33,7 @@ pub enum DueFault {
 }
 
 impl DueFault {
-    /// The fault of a file's standing.
+    /// The fault of the standing of a file or an edit.
     pub fn of(fault: CycleFault) -> Self
         ensures { result ≡ standing_fault fault }
     {

@@ -1,5 +1,5 @@
 //! Laws of the booked history.
-ghost use Rattle.std.specs.Prelude.{◌≡◌, ℕ, List, ◌++◌, AllPairs, Ok, Some, None, IsSome};
+ghost use Rattle.std.specs.Prelude.{◌≡◌, ℕ, List, [], ◌∷◌, ◌++◌, AllPairs, Ok, Some, None, IsSome};
 ghost use Rattle.std.specs.FinMap.{get};
 ghost use Rattle.ali_record.specs.Layout.{byte_of};
 ghost use Rattle.ali_record.specs.declared.field.Field.TheVariants.{Function};
@@ -9,6 +9,7 @@ ghost use Rattle.number_life.specs.NumberLife.{owner, function_of};
 ghost use Rattle.sequence_once.specs.KeptCycles.{codes_of};
 ghost use Rattle.sequence_once.specs.CycleStanding.{standing_of};
 ghost use Rattle.sequence_once.specs.declared.standing.Standing.TheVariants.{Complete};
+ghost use Rattle.msag_edits.specs.GuideSoundness.{AreSound};
 ghost use Rattle.office_entry.specs.declared.entry.Entry.{Entry};
 ghost use Rattle.office_entry.specs.declared.entry.Entry.TheVariants.{Line};
 ghost use Rattle.office_state.specs.declared.limits.Limits.{Limits};
@@ -16,7 +17,8 @@ ghost use Rattle.office_state.specs.History.{IsLegal, Repeats, state};
 ghost use Rattle.office_state.specs.OfficeState.{State};
 ghost use Rattle.office_state.specs.Verdict.{after};
 
-/// In a legal history no cycle of a company is opened twice, and no line of a cycle is booked twice.
+/// In a legal history no cycle of a company is opened twice, no line of a cycle is booked twice, and no
+/// serial of an editor is used twice.
 pub fn bookings_are_once()
     ensures { (limits : Limits) (history : List Entry) → IsLegal limits history → AllPairs (λ e f. Repeats e f → ⊥) history }
 {}
@@ -40,7 +42,13 @@ pub fn locked_rows_are_their_owners()
 /// A row gets another owner only by a migrate in that company's file, and only where it was unlocked; it
 /// is locked then.
 pub fn owners_change_by_migrate()
-    ensures { (s : State) (tn : List ℕ) (old new : Row) (company : List ℕ) (cycle line : ℕ) (bytes : List ℕ)
-        → get s.table tn ≡ Some old → get (after s (Line company cycle line bytes)).table tn ≡ Some new → (owner new ≡ owner old → ⊥)
+    ensures { (limits : Limits) (history : List Entry) (tn : List ℕ) (old new : Row) (company : List ℕ) (cycle line : ℕ) (bytes : List ℕ)
+        → IsLegal limits history → get (state limits history).table tn ≡ Some old
+        → get (state limits (history ++ Line company cycle line bytes ∷ [])).table tn ≡ Some new → (owner new ≡ owner old → ⊥)
         → IsSome old.unlocked × (function_of (byte_of bytes Function) ≡ Migrate) × (owner new ≡ company) × (new.unlocked ≡ None) }
+{}
+
+/// In the state of a legal history guide and table are sound together.
+pub fn legal_histories_are_sound()
+    ensures { (limits : Limits) (history : List Entry) → IsLegal limits history → AreSound (state limits history).guide (state limits history).table }
 {}

@@ -1,8 +1,10 @@
-//! The state of the office: the table of numbers and the kept cycles, and the entries of the booked
-//! history that change it.
+//! The state of the office: the table of numbers, the street guide, the kept cycles and the last edits, and
+//! the entries of the booked history that change it.
 #![tactic(auto)]
 
+mod due;
 mod due_fault;
+mod judging;
 mod laws;
 mod limits;
 mod office;
@@ -10,8 +12,8 @@ mod verdict;
 
 pub use due_fault::DueFault;
 pub use laws::{
-    bookings_are_once, finished_cycles_keep_their_codes, locked_rows_are_their_owners,
-    owners_change_by_migrate,
+    bookings_are_once, finished_cycles_keep_their_codes, legal_histories_are_sound,
+    locked_rows_are_their_owners, owners_change_by_migrate,
 };
 pub use limits::Limits;
 pub use office::{ApplyFault, Office};

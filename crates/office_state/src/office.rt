@@ -1,28 +1,37 @@
 //! The office, and entries that change it.
-ghost use Rattle.std.specs.Prelude.{◌≡◌, ◌&&◌, ◌^◌, nat_le, ◌↔◌, ℕ, ◌+◌, ◌<◌, ◌==◌, List, ◌∷◌, [], ◌++◌, length, IfOk, OnOk, OnErr, IfErr, Ok, Err, Some, None, false, MatchResult, option_map, slice_get};
+ghost use Rattle.std.specs.Prelude.{◌≡◌, ℕ, ◌+◌, ◌<◌, List, ◌∷◌, [], ◌++◌, length, IfOk, OnOk, OnErr, IfErr, Ok, false, option_map, slice_get};
 ghost use Rattle.std.specs.Option.{option_copied};
 ghost use Rattle.std.specs.FinMap as map;
-ghost use Rattle.sequence_once.specs.KeptCycles.{IsSound, last_of, is_last_finished, after_open, after_note, codes_of, count_of};
+ghost use Rattle.ali_base.specs.CivilDay.{CivilDay};
+ghost use Rattle.sequence_once.specs.KeptCycles.{IsSound, last_of, is_last_finished, codes_of, count_of};
 ghost use Rattle.sequence_once.specs.CycleReaders.{last_shown, record_of};
 ghost use Rattle.sequence_once.specs.CycleStanding.{standing_of};
+ghost use Rattle.sequence_once.specs.SerialStanding.{AreKeptEdits, edit_of, serial_standing};
+ghost use Rattle.sequence_once.specs.declared.standing.Standing.TheVariants.{New};
+ghost use Rattle.office_entry.specs.EditBytes.{edit_digest};
+ghost use Rattle.office_entry.specs.Entries.{IsEntry};
 ghost use Rattle.office_entry.specs.declared.entry.Entry.{Entry as AnyEntry};
 ghost use Rattle.office_state.specs.declared.limits.Limits.{Limits as AnyLimits};
-ghost use Rattle.office_state.specs.OfficeState.{empty_state};
-ghost use Rattle.office_state.specs.Due.{IsDue, due_of, due_line, line_due, opening_due, not_next};
+ghost use Rattle.office_state.specs.OfficeState.{empty_state, limits_of, without_spare};
+ghost use Rattle.office_state.specs.Soundness.{IsSoundOffice};
+ghost use Rattle.office_state.specs.EditReaders.{edit_shown};
+ghost use Rattle.office_state.specs.Due.{IsDue, due_of, due_line, opening_due};
 ghost use Rattle.office_state.specs.Refusals.{IsRefused};
-ghost use Rattle.office_state.specs.Rooms.{HasRoom};
-ghost use Rattle.office_state.specs.Verdict.{verdict, after, record_act, within_limit, code_of, table_after};
+ghost use Rattle.office_state.specs.Verdict.{verdict, after, record_act, code_of, table_after};
 ghost use Rattle.office_state.specs.History.{IsLegal, Represents};
 
+use crate::due::{edit_due, line_due, not_next};
 use crate::due_fault::DueFault;
+use crate::judging::change;
 use crate::limits::Limits;
 use crate::verdict::Verdict;
-use ali_base::{Company, Cycle, NoMemory, Tn};
-use ali_record::{Record, read_record};
-use number_life::{LifeAct, Row, judge};
+use ali_base::{Company, Cycle, Editor, NoMemory, Serial, Tn};
+use msag_edits::apply_edit;
+use msag_ranges::Guide;
+use number_life::Row;
 use number_table::Rows;
-use office_entry::Entry;
-use sequence_once::{CycleFault, Cycles, KeptCycle, Last, Standing};
+use office_entry::{Edit, Entry};
+use sequence_once::{CycleFault, Cycles, KeptCycle, Last, Serials, Standing};
 use std::alloc::Global;
 use std::marker::Model;
 
@@ -39,20 +48,26 @@ pub enum ApplyFault {
 #[derive(Drop)]
 pub struct Office {
     alloc: Global,
-    rows: Rows,
+    pub(crate) rows: Rows,
+    pub(crate) most_numbers: u32,
+    pub(crate) guide: Guide,
     cycles: Cycles,
-    most_numbers: u32,
+    edits: Serials,
     entries: u32,
 }
 
 impl Model for Office {
-    ghost use Rattle.office_state.specs.OfficeState.{OfficeState, coded_office};
+    ghost use Rattle.office_state.specs.OfficeState.{OfficeState, without_spare};
+    ghost use Rattle.office_state.specs.StoredState.{coded_office};
+    ghost use Rattle.office_state.specs.Soundness.{IsSoundOffice};
 
     ghost Value = { OfficeState };
 
     ghost coded = { coded_office };
 
-    ghost view = { λ o. record { state = record { table = o.rows; cycles = o.cycles; most_numbers = o.most_numbers }; entries = o.entries } };
+    ghost view = { λ o. record { state = record { table = o.rows; most_numbers = o.most_numbers; guide = without_spare o.guide; cycles = o.cycles; edits = o.edits }; entries = o.entries } };
+
+    ghost invariant = { λ o. IsSoundOffice (record { state = record { table = o.rows; most_numbers = o.most_numbers; guide = without_spare o.guide; cycles = o.cycles; edits = o.edits }; entries = o.entries }) };
 }
 
 impl Office {
@@ -64,10 +79,24 @@ impl Office {
         Ok(Office {
             alloc,
             rows: Rows::new(alloc),
-            cycles: Cycles::new(alloc, limits.companies)?,
             most_numbers: limits.numbers,
+            guide: Guide::new(alloc, limits.ranges)?,
+            cycles: Cycles::new(alloc, limits.companies)?,
+            edits: Serials::new(alloc)?,
             entries: 0,
         })
+    }
+
+    /// Forgets all that was applied, as if newly made with the same limits. Takes no memory.
+    pub fn clear(&mut self)
+        ensures empty { self.new ≡ record { state = empty_state (limits_of self.old.state); entries = 0 } }
+        ensures history { (limits : AnyLimits) (history : List AnyEntry) → Represents limits self.old history → Represents limits self.new [] }
+    {
+        self.rows.clear();
+        self.guide.clear();
+        self.cycles.clear();
+        self.edits.clear();
+        self.entries = 0;
     }
 
     /// How many entries were applied, the refused ones too.
@@ -79,12 +108,21 @@ impl Office {
 
     /// The row of a number.
     pub fn row(&self, tn: Tn) -> Option<&Row>
-        ensures { option_copied result ≡ map.get self.now.state.table tn }
+        ensures row { option_copied result ≡ map.get self.now.state.table tn }
+        ensures sound { IsSoundOffice self.now }
     {
         self.rows.get(tn)
     }
 
-    /// What a file is to the kept cycles.
+    /// The street guide.
+    pub fn guide(&self) -> &Guide
+        ensures guide { without_spare result.now ≡ self.now.state.guide }
+        ensures sound { IsSoundOffice self.now }
+    {
+        &self.guide
+    }
+
+    /// What a file is to the kept cycles, by its company, cycle and digest.
     ///
     /// # Errors
     ///
@@ -101,6 +139,33 @@ impl Office {
         ensures sound { IsSound self.now.state.cycles }
     {
         self.cycles.standing(company, cycle, digest)
+    }
+
+    /// What an edit, by its serial and its digest, is to its editor's last one.
+    ///
+    /// # Errors
+    ///
+    /// `Gap` where its serial is greater than the one that is due; `Differs` where it has the last
+    /// serial with another digest; `TooOld` where its serial is smaller than the last.
+    pub fn edit_standing(
+        &self,
+        editor: Editor,
+        serial: Serial,
+        digest: &[u8; 32],
+    ) -> Result<Standing, CycleFault>
+        ensures table { result ≡ serial_standing (edit_of editor self.now.state.edits) serial digest.now }
+        ensures sound { AreKeptEdits self.now.state.edits }
+    {
+        self.edits
+            .standing(editor.number(), serial.number(), digest)
+    }
+
+    /// The serial of an editor's last edit, and what that edit got.
+    pub fn edit_kept(&self, editor: Editor) -> Option<(u32, Verdict)>
+        ensures { result ≡ option_map edit_shown (edit_of editor self.now.state.edits) }
+    {
+        let (serial, _, code, detail) = self.edits.kept(editor.number())?;
+        Some((serial, Verdict { code, detail }))
     }
 
     /// The codes of a company's cycle, where it is kept.
@@ -138,7 +203,8 @@ impl Office {
     /// # Errors
     ///
     /// `NotNext` for a line that is not its company's next, and for an opening whose cycle is open
-    /// already; otherwise the fault of an opening's file, or `Complete` where its cycle is finished.
+    /// already; otherwise the fault of the standing of an opening's file or of an edit, or `Complete`
+    /// where that is its standing.
     pub fn due(&self, e: &Entry) -> Result<(), DueFault>
         ensures due { OnOk result (IsDue self.now.state e.now) }
         ensures not_due { OnErr result (IsDue self.now.state e.now → ⊥) }
@@ -157,6 +223,11 @@ impl Office {
                 line,
                 ..
             } => line_due(self.due_line(*company), cycle.number(), *line),
+            Entry::Edit {
+                editor,
+                serial,
+                edit,
+            } => edit_due(self.edit_standing(*editor, *serial, &edit.digest())),
         }
     }
 
@@ -179,12 +250,10 @@ impl Office {
         if let Err(fault) = self.due(e) {
             return Err(ApplyFault::NotDue(fault));
         }
-        let code = match self.carry_out(e) {
-            Ok(code) => code,
-            Err(NoMemory) => return Err(ApplyFault::NoMemory),
-        };
-        self.entries += 1;
-        Ok(Verdict { code, detail: 0 })
+        match self.book(e) {
+            Ok(verdict) => Ok(verdict),
+            Err(NoMemory) => Err(ApplyFault::NoMemory),
+        }
     }
 
     // Whether an opening may be booked.
@@ -211,12 +280,13 @@ impl Office {
         }
     }
 
-    // Carries out an entry that may be booked, and answers its code.
-    #[tactic(auto, unfolding(crate::specs::Verdict::after))]
-    fn carry_out(&mut self, e: &Entry) -> Result<u16, NoMemory>
-        requires { IsDue self.old.state e.now }
-        ensures code { IfOk result (λ code. record { code = code; detail = 0 } ≡ verdict self.old.state e.now) }
-        ensures state { OnOk result (self.new ≡ record self.old { state = after self.old.state e.now }) }
+    // Books an entry that may be booked.
+    fn book(&mut self, e: &Entry) -> Result<Verdict, NoMemory>
+        requires due { IsDue self.old.state e.now }
+        requires count { self.old.entries < 4_000_000_000 }
+        ensures verdict { IfOk result (λ v. v ≡ verdict self.old.state e.now) }
+        ensures after { OnOk result (self.new ≡ record { state = after self.old.state e.now; entries = self.old.entries + 1 }) }
+        ensures entry { OnOk result (IsEntry e.now) }
         ensures err { OnErr result (self.new ≡ self.old) }
     {
         match e {
@@ -226,103 +296,95 @@ impl Office {
                 count,
                 digest,
                 ..
-            } => {
-                self.cycles
-                    .open(self.alloc, *company, *cycle, *count, digest)?;
-                Ok(0)
-            }
-            Entry::Line { company, bytes, .. } => self.book(*company, bytes),
+            } => self.book_opening(*company, *cycle, *count, digest),
+            Entry::Line { company, bytes, .. } => self.book_line(*company, bytes),
+            Entry::Edit {
+                editor,
+                serial,
+                edit,
+            } => self.book_edit(*editor, *serial, edit),
         }
     }
 
-    // Carries out a line that may be booked.
-    fn book(&mut self, company: Company, bytes: &[u8; 512]) -> Result<u16, NoMemory>
-        requires { is_last_finished (last_of company self.old.state.cycles.kept) ≡ false }
-        ensures code { IfOk result (λ code. code ≡ code_of (record_act self.old.state company bytes.now)) }
-        ensures table { OnOk result (self.new.state.table ≡ table_after self.old.state.table bytes.now (record_act self.old.state company bytes.now)) }
-        ensures cycles { OnOk result (self.new.state.cycles ≡ after_note self.old.state.cycles company (code_of (record_act self.old.state company bytes.now))) }
-        ensures others { (self.new.entries ≡ self.old.entries) × (self.new.state.most_numbers ≡ self.old.state.most_numbers) }
+    // Books the opening of a new cycle.
+    #[tactic(auto, unfolding(crate::specs::Verdict::after))]
+    fn book_opening(
+        &mut self,
+        company: Company,
+        cycle: Cycle,
+        count: u32,
+        digest: &[u8; 32],
+    ) -> Result<Verdict, NoMemory>
+        requires new { standing_of self.old.state.cycles company cycle digest.now ≡ Ok New }
+        requires count { self.old.entries < 4_000_000_000 }
+        ensures verdict { IfOk result (λ v. v ≡ record { code = 0; detail = 0 }) }
+        ensures after { OnOk result ((day : CivilDay) → self.new ≡ record { state = after self.old.state (AnyEntry.Open company cycle count day digest.now); entries = self.old.entries + 1 }) }
         ensures err { OnErr result (self.new ≡ self.old) }
     {
-        let code = match self.record_act(company, bytes) {
-            Ok((record, act)) => {
-                change(&mut self.rows, record, act)?;
-                0
-            }
-            Err(code) => code,
-        };
+        self.cycles.open(self.alloc, company, cycle, count, digest)?;
+        self.entries += 1;
+        Ok(Verdict { code: 0, detail: 0 })
+    }
+
+    // Books a line, under its company's last cycle.
+    #[tactic(auto, unfolding(crate::specs::Verdict::after))]
+    fn book_line(&mut self, company: Company, bytes: &[u8; 512]) -> Result<Verdict, NoMemory>
+        requires next { is_last_finished (last_of company self.old.state.cycles.kept) ≡ false }
+        requires count { self.old.entries < 4_000_000_000 }
+        ensures verdict { IfOk result (λ v. v ≡ record { code = code_of (record_act self.old.state company bytes.now); detail = 0 }) }
+        ensures after { OnOk result ((cycle line : ℕ) → self.new ≡ record { state = after self.old.state (AnyEntry.Line company cycle line bytes.now); entries = self.old.entries + 1 }) }
+        ensures size { length bytes.now ≡ 512 }
+        ensures err { OnErr result (self.new ≡ self.old) }
+    {
+        let code = self.change_number(company, bytes)?;
         self.cycles.note(company, code);
-        Ok(code)
+        self.entries += 1;
+        Ok(Verdict { code, detail: 0 })
     }
 
-    // The record of a line and what is to be done, or the code of its refusal.
-    #[tactic(auto, unfolding(crate::specs::Verdict::record_act))]
-    fn record_act(&self, company: Company, bytes: &[u8; 512]) -> Result<(Record, LifeAct), u16>
-        ensures { MatchResult result
-            (λ done. (done.0 ≡ bytes.now) × (record_act self.now.state company bytes.now ≡ Ok done.1) × HasRoom self.now.state.table bytes.now done.1)
-            (λ code. record_act self.now.state company bytes.now ≡ Err code) }
+    // Does to the number of a line what its record asks for, and answers the code.
+    fn change_number(&mut self, company: Company, bytes: &[u8; 512]) -> Result<u16, NoMemory>
+        ensures code { IfOk result (λ code. code ≡ code_of (record_act self.old.state company bytes.now)) }
+        ensures table { OnOk result (self.new ≡ record self.old { state = record self.old.state { table = table_after self.old.state.guide.ranges self.old.state.table bytes.now (record_act self.old.state company bytes.now) } }) }
+        ensures err { OnErr result (self.new ≡ self.old) }
     {
-        let record = read_record(bytes, company)?;
-        let act = judge(self.rows.get(record.tn()), &record)?;
-        if self.is_full(record.function()) {
-            return Err(509);
+        match self.judge_line(company, bytes) {
+            Ok(asked) => {
+                change(&mut self.rows, asked)?;
+                Ok(0)
+            }
+            Err(code) => Ok(code),
         }
-        Ok((record, act))
     }
 
-    // Whether a record of this function finds the table at its limit, which is asked of inserts.
-    fn is_full(&self, function: u8) -> bool
-        ensures full { result ≡ ((function == 73) && nat_le self.now.state.most_numbers (map.len self.now.state.table)) }
-        ensures small { self.now.state.most_numbers < 2 ^ 32 }
+    // Books an edit.
+    #[tactic(auto, unfolding(crate::specs::Verdict::after))]
+    fn book_edit(
+        &mut self,
+        editor: Editor,
+        serial: Serial,
+        edit: &Edit,
+    ) -> Result<Verdict, NoMemory>
+        requires new { serial_standing (edit_of editor self.old.state.edits) serial (edit_digest edit.now) ≡ Ok New }
+        requires count { self.old.entries < 4_000_000_000 }
+        ensures verdict { IfOk result (λ v. v ≡ verdict self.old.state (AnyEntry.Edit editor serial edit.now)) }
+        ensures after { OnOk result (self.new ≡ record { state = after self.old.state (AnyEntry.Edit editor serial edit.now); entries = self.old.entries + 1 }) }
+        ensures entry { OnOk result (IsEntry (AnyEntry.Edit editor serial edit.now)) }
+        ensures err { OnErr result (self.new ≡ self.old) }
     {
-        let most = self.most_numbers;
-        function == b'I' && most <= self.rows.len()
-    }
-}
-
-// The fault of an entry that is not the next.
-fn not_next(next: Option<(u32, u32)>) -> DueFault
-    ensures { result ≡ not_next next }
-{
-    match next {
-        Some((cycle, line)) => DueFault::NotNext { cycle, line },
-        None => DueFault::NotNext { cycle: 0, line: 0 },
-    }
-}
-
-// Whether a line is the one that may be booked.
-fn line_due(next: Option<(u32, u32)>, cycle: u32, line: u32) -> Result<(), DueFault>
-    ensures { result ≡ line_due next cycle line }
-{
-    if next == Some((cycle, line)) {
-        Ok(())
-    } else {
-        Err(not_next(next))
-    }
-}
-
-// Does to the row of its number what a record is judged to do.
-fn change(rows: &mut Rows, rec: Record, act: LifeAct) -> Result<(), NoMemory>
-    requires { HasRoom rows.old rec act }
-    ensures ok { OnOk result (rows.new ≡ table_after rows.old rec (Ok act)) }
-    ensures err { OnErr result (rows.new ≡ rows.old) }
-{
-    let tn = rec.tn();
-    match act {
-        LifeAct::Store => rows.insert(
-            tn,
-            Row {
-                rec,
-                unlocked: None,
-            },
-        ),
-        LifeAct::Remove => {
-            rows.remove(tn);
-            Ok(())
-        }
-        LifeAct::Unlock(day) => {
-            rows.unlock(tn, day);
-            Ok(())
-        }
+        let done = apply_edit(&mut self.guide, &mut self.rows, edit)?;
+        let digest = edit.digest();
+        self.edits.note(
+            editor.number(),
+            serial.number(),
+            &digest,
+            done.code,
+            done.detail,
+        );
+        self.entries += 1;
+        Ok(Verdict {
+            code: done.code,
+            detail: done.detail,
+        })
     }
 }

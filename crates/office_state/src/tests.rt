@@ -2,8 +2,8 @@
 ghost use Rattle.std.specs.Prelude.{◌+◌, ◌≤◌, length};
 
 use crate::{ApplyFault, DueFault, Limits, Office, Verdict};
-use ali_base::{Company, Cycle, Day, Tn};
-use office_entry::Entry;
+use ali_base::{Company, Cycle, Day, Editor, Serial, Tn};
+use office_entry::{Edit, Entry};
 use sequence_once::{CycleFault, Standing};
 use std::test::Fail;
 
@@ -14,7 +14,7 @@ fn put(bytes: &mut [u8; 512], column: usize, text: &[u8])
     bytes[column - 1..column - 1 + text.len()].copy_from_slice(text);
 }
 
-// The record of a number that is to be inserted.
+// The record of a number at house 0 of MAIN that is to be inserted.
 fn record(number: &[u8; 10], company: &[u8; 5]) -> [u8; 512] {
     let mut record = [b' '; 512];
     put(&mut record, 1, b"I");
@@ -48,6 +48,20 @@ fn line(company: Company, cycle: Cycle, line: u32, bytes: &[u8; 512]) -> Entry {
     }
 }
 
+// An edit of editor 1, by its text.
+fn edit(serial: u32, text: &[u8]) -> Option<Entry> {
+    Some(Entry::Edit {
+        editor: Editor::new(1)?,
+        serial: Serial::new(serial)?,
+        edit: Edit::read_text(text)?,
+    })
+}
+
+// The edit that makes the numbers 0 to 98 of MAIN a range.
+fn main_street() -> Option<Entry> {
+    edit(1, b"ADD |||MAIN|||0|98|E|101")
+}
+
 // The company of the first kept cycle.
 fn first_kept(office: &Office) -> Option<Company> {
     match office.kept(0) {
@@ -57,6 +71,19 @@ fn first_kept(office: &Office) -> Option<Company> {
 }
 
 const DONE: Result<Verdict, ApplyFault> = Ok(Verdict { code: 0, detail: 0 });
+
+// What an entry gets that is refused with this code.
+fn refused(code: u16) -> Result<Verdict, ApplyFault> {
+    Ok(Verdict { code, detail: 0 })
+}
+
+// What an edit gets that makes the range of this id.
+fn range_of_id(id: u64) -> Result<Verdict, ApplyFault> {
+    Ok(Verdict {
+        code: 0,
+        detail: id,
+    })
+}
 
 // The entries of cycle 1 of a company: its opening, a record that is accepted, the same again, and one
 // of another company.
@@ -79,28 +106,18 @@ fn a_cycle_is_booked_line_by_line(rt: HostRuntime) -> Result<(), Fail> {
     let day = Day::read(b"010224").expect(&rt, "a day");
     let tn = Tn::read(b"3035550100").expect(&rt, "a number");
     let mut office = Office::new(rt.alloc(), Limits::office())?;
+    let street = main_street().expect(&rt, "an edit");
     let [open, first, second, third] = cycle(abc, one, day);
+    assert_eq!(rt; office.apply(&street), range_of_id(1));
     assert_eq!(rt; office.apply(&open), DONE);
     assert_eq!(rt; office.apply(&first), DONE);
     assert_eq!(rt;
         office.standing(abc, one, &[7; 32]),
         Ok(Standing::Resume(2))
     );
-    assert_eq!(rt;
-        office.apply(&second),
-        Ok(Verdict {
-            code: 301,
-            detail: 0
-        })
-    );
-    assert_eq!(rt;
-        office.apply(&third),
-        Ok(Verdict {
-            code: 106,
-            detail: 0
-        })
-    );
-    assert_eq!(rt; office.entries(), 4);
+    assert_eq!(rt; office.apply(&second), refused(301));
+    assert_eq!(rt; office.apply(&third), refused(106));
+    assert_eq!(rt; office.entries(), 5);
     assert_eq!(rt; office.codes(abc, one), Some([0, 301, 106].as_slice()));
     assert_eq!(rt; office.count(abc, one), Some(3));
     assert_eq!(rt;
@@ -108,11 +125,15 @@ fn a_cycle_is_booked_line_by_line(rt: HostRuntime) -> Result<(), Fail> {
         Some((3, 3))
     );
     assert_eq!(rt; first_kept(&office), Some(abc));
-    let own = record(b"3035550100", b"ABC01");
+    let mut stored = record(b"3035550100", b"ABC01");
+    put(&mut stored, 226, b"00101");
     assert_eq!(rt;
-        office.row(tn).map(|row| row.rec.bytes() == &own),
+        office.row(tn).map(|row| row.rec.bytes() == &stored),
         Some(true)
     );
+    office.clear();
+    assert_eq!(rt; office.entries(), 0);
+    assert!(rt; office.row(tn).is_none());
     Ok(())
 }
 
@@ -139,6 +160,71 @@ fn entries_out_of_turn(rt: HostRuntime) -> Result<(), Fail> {
     Ok(())
 }
 
+// Edits of editor 1: serial 1 twice, then 2 and 3.
+fn edits() -> Option<[Entry; 4]> {
+    Some([
+        main_street()?,
+        edit(1, b"RETIRE 1")?,
+        edit(2, b"SETESN 1 0")?,
+        edit(3, b"RETIRE 7")?,
+    ])
+}
+
+// Serials of an editor are used one after the other, each once.
+#[test]
+fn edits_out_of_turn(rt: HostRuntime) -> Result<(), Fail> {
+    let editor = Editor::new(1).expect(&rt, "an editor");
+    let mut office = Office::new(rt.alloc(), Limits::office())?;
+    let [first, other, second, third] = edits().expect(&rt, "edits");
+    assert_eq!(rt; office.due(&third), Err(DueFault::Gap(1)));
+    assert_eq!(rt; office.apply(&first), range_of_id(1));
+    assert_eq!(rt; office.due(&first), Err(DueFault::Complete));
+    assert!(rt; matches!(office.due(&other), Err(DueFault::Differs { .. })));
+    assert_eq!(rt; office.due(&third), Err(DueFault::Gap(2)));
+    let no_esn = Verdict {
+        code: 508,
+        detail: 0,
+    };
+    assert_eq!(rt; office.apply(&second), Ok(no_esn));
+    assert_eq!(rt; office.edit_kept(editor), Some((2, no_esn)));
+    assert_eq!(rt; office.due(&first), Err(DueFault::TooOld(2)));
+    assert_eq!(rt; office.entries(), 2);
+    assert_eq!(rt; office.guide().next_id(), 2);
+    Ok(())
+}
+
+// The edits that make two ranges.
+fn two_streets() -> Option<[Entry; 2]> {
+    Some([main_street()?, edit(2, b"ADD |||OAK|||0|98|E|101")?])
+}
+
+// A range, and a cycle of two numbers in it.
+fn two_numbers(abc: Company, one: Cycle, day: Day) -> Option<[Entry; 4]> {
+    Some([
+        main_street()?,
+        opening(abc, one, 2, day),
+        line(abc, one, 1, &record(b"3035550100", b"ABC01")),
+        line(abc, one, 2, &record(b"3035550101", b"ABC01")),
+    ])
+}
+
+// One company, one number and one range.
+const SMALL: Limits = Limits {
+    companies: 1,
+    numbers: 1,
+    ranges: 1,
+};
+
+// The second range finds the guide at its limit.
+#[test]
+fn the_limit_of_ranges_is_told(rt: HostRuntime) -> Result<(), Fail> {
+    let mut office = Office::new(rt.alloc(), SMALL)?;
+    let [street, another] = two_streets().expect(&rt, "edits");
+    assert_eq!(rt; office.apply(&street), range_of_id(1));
+    assert_eq!(rt; office.apply(&another), refused(509));
+    Ok(())
+}
+
 // The second number finds the table at its limit, and the second company the office.
 #[test]
 fn limits_are_told(rt: HostRuntime) -> Result<(), Fail> {
@@ -146,27 +232,14 @@ fn limits_are_told(rt: HostRuntime) -> Result<(), Fail> {
     let xyz = Company::read(b"XYZ02").expect(&rt, "a company");
     let one = Cycle::new(1).expect(&rt, "a cycle");
     let day = Day::read(b"010224").expect(&rt, "a day");
-    let limits = Limits {
-        companies: 1,
-        numbers: 1,
-        ranges: 1,
-    };
-    let mut office = Office::new(rt.alloc(), limits)?;
-    assert_eq!(rt; office.apply(&opening(abc, one, 2, day)), DONE);
-    assert_eq!(rt;
-        office.apply(&line(abc, one, 1, &record(b"3035550100", b"ABC01"))),
-        DONE
-    );
-    let full = office.apply(&line(abc, one, 2, &record(b"3035550101", b"ABC01")));
-    assert_eq!(rt;
-        full,
-        Ok(Verdict {
-            code: 509,
-            detail: 0
-        })
-    );
-    let second = office.apply(&opening(xyz, one, 2, day));
-    assert_eq!(rt; second, Err(ApplyFault::NotDue(DueFault::CompaniesFull(1))));
+    let mut office = Office::new(rt.alloc(), SMALL)?;
+    let [street, open, first, second] = two_numbers(abc, one, day).expect(&rt, "entries");
+    assert_eq!(rt; office.apply(&street), range_of_id(1));
+    assert_eq!(rt; office.apply(&open), DONE);
+    assert_eq!(rt; office.apply(&first), DONE);
+    assert_eq!(rt; office.apply(&second), refused(509));
+    let second_company = office.due(&opening(xyz, one, 2, day));
+    assert_eq!(rt; second_company, Err(DueFault::CompaniesFull(1)));
     assert_eq!(rt;
         office.standing(xyz, one, &[7; 32]),
         Err(CycleFault::CompaniesFull(1))

@@ -1,8 +1,9 @@
 -- What a guide edit is to its editor's last one, by its serial and the digest of its bytes.
-use Rattle.std.specs.Prelude.{◌≡◌, ℕ, ◌+◌, ◌-◌, ◌≤◌, ◌==◌, nat_lt, List, [], length, get_or, set, replicate, Option, Some, None, Result, Ok, Err, if◌then◌else◌}
+use Rattle.std.specs.Prelude.{◌≡◌, ℕ, ◌+◌, ◌-◌, ◌==◌, nat_lt, List, [], length, get_or, set, replicate, Option, Some, None, Result, Ok, Err, if◌then◌else◌}
 use Rattle.std.specs.List.{All}
 use Rattle.std.specs.Str.{bytes_eq}
 use Rattle.std.specs.Borrow.{Bor}
+use Rattle.ali_base.specs.Editors.{IsSerial}
 use Rattle.sequence_once.specs.declared.standing.Standing.{Standing}
 use Rattle.sequence_once.specs.declared.standing.Standing.TheVariants.{New, Complete}
 use Rattle.sequence_once.specs.declared.standing.CycleFault.{CycleFault}
@@ -14,14 +15,6 @@ pub record EditRecord : Type 0 where
   pub digest : List ℕ
   pub code : ℕ
   pub detail : ℕ
-
--- an editor: 1 to 64
-abbrev pub IsEditor : ℕ → Type 0
-IsEditor editor = (1 ≤ editor) × (editor ≤ 64)
-
--- a serial: 1 to 999,999,999
-abbrev pub IsSerial : ℕ → Type 0
-IsSerial serial = (1 ≤ serial) × (serial ≤ 999_999_999)
 
 -- nothing, or an edit with a serial in range
 abbrev pub HasSerial : Option EditRecord → Type 0

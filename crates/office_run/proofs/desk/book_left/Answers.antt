@@ -9,7 +9,7 @@ use Rattle.office_run.proofs.desk.book_left.Goals as goal
 pub loop-entry-smaller : goal.loop-entry-smaller
 loop-entry-smaller c =
     let job = c.args.job.now in
-    let first = step c.loop-entry.office.state job c.in-Ok.entry c.in-Ok.ensures.sound (sym c.in-Ok.ensures.exact) in
+    let first = step c.loop-entry.office.state job c.in-Ok.entry c.in-Ok.ensures.ready (sym c.in-Ok.ensures.exact) in
     omega (arith, ap length first.left, ap (λ s. length (entries_left s job)) c.in_ok-book.ensures.state)
 
 pub loop-entry-preserved : goal.loop-entry-preserved
@@ -17,7 +17,7 @@ loop-entry-preserved c =
     let job = c.args.job.now in
     let e = c.in-Ok.entry in
     let so_far = c.loop-entry.invariant.booked in
-    let first = step c.loop-entry.office.state job e c.in-Ok.ensures.sound (sym c.in-Ok.ensures.exact) in
+    let first = step c.loop-entry.office.state job e c.in-Ok.ensures.ready (sym c.in-Ok.ensures.exact) in
     let was = next_readable c.loop-entry.office.state job e (sym c.in-Ok.ensures.exact) in
     let left : entries_left c.loop-entry.office.state job ≡ e ∷ entries_left c.book.new.office.state job = first.left ∙ ap (λ s. e ∷ entries_left s job) (sym c.in_ok-book.ensures.state) in
     record {

@@ -1,5 +1,12 @@
-use Rattle.office_run.proofs.Machines.{legal_at, booked_once}
+use Rattle.office_run.specs.Machine.{start, office_limits, after_all}
+use Rattle.office_state.proofs.Positions.{once}
+use Rattle.office_state.proofs.SoundHistories.{sound_legal}
+use Rattle.office_run.proofs.Machines.{legal_at}
 use Rattle.office_run.proofs.laws.histories_are_legal.Goals as goal
 
 pub returns : goal.returns
-returns c = record { legal = legal_at; once = booked_once }
+returns c = record {
+  legal = legal_at;
+  once = λ commands lawful. once office_limits (after_all start commands).history (legal_at commands lawful);
+  sound = λ commands lawful. (sound_legal office_limits (after_all start commands).history (legal_at commands lawful)).sound;
+}

@@ -4,7 +4,7 @@ use Rattle.office_run.specs.Machine.{office_limits, after, reply}
 use Rattle.office_run.specs.ParsedCommand.{command_of}
 use Rattle.office_run.specs.MadeReply.{Keeps}
 use Rattle.office_run.proofs.Results.{OnOk-weaker, IfOk-weaker, both_ok}
-use Rattle.office_run.proofs.Commands.{says_ask, says_file, says_next, says_batch, job_after, next_kept, batch_kept}
+use Rattle.office_run.proofs.Commands.{says_ask, says_file, says_edit, says_next, says_batch, job_after, job_after_edit, next_kept, batch_kept}
 use Rattle.office_run.proofs.desk.Desk.carry_out.Goals as goal
 
 pub returns-in-Ask-clause-reply : goal.returns-in-Ask-clause-reply
@@ -60,3 +60,19 @@ returns-in-Batch-clause-after c =
     OnOk-weaker c.book_all.result _ _
     (λ booked m h. subst (λ x. Keeps c.book_all.new.self (after m (command_of x))) (sym c.in-Batch.is) (batch_kept old.office old.job m h.office h.job c.book_all.new.self (booked m.history h.office) c.book_all.ensures.job))
     c.book_all.ensures.office
+
+pub returns-in-Edit-clause-reply : goal.returns-in-Edit-clause-reply
+returns-in-Edit-clause-reply c m h =
+    let old = c.args.self.now in
+    let e = c.in-Edit in
+    c.read_edit.ensures.reply ∙ says_edit old.office old.job m h.office h.job e.editor e.serial e.edit ∙ ap (λ x. reply m (command_of x)) (sym e.is)
+
+pub returns-in-Edit-clause-after : goal.returns-in-Edit-clause-after
+unfolding after
+returns-in-Edit-clause-after c m h =
+    let old = c.args.self.now in
+    let e = c.in-Edit in
+    subst (λ x. Keeps c.read_edit.new.self (after m (command_of x))) (sym e.is) (record {
+      office = subst (λ o. Represents office_limits o m.history) (sym c.read_edit.ensures.office) h.office;
+      job = c.read_edit.ensures.job ∙ job_after_edit old.office old.job m h.office h.job e.editor e.serial e.edit;
+    })

@@ -1,0 +1,24 @@
+use Rattle.std.proofs.Common.{◌+◌, ap, ◌∙◌}
+use Rattle.office_entry.specs.declared.entry.Entry.TheVariants.{Edit}
+use Rattle.sequence_once.specs.SerialStanding.{after_serial}
+use Rattle.office_state.specs.OfficeState.{OfficeState}
+use Rattle.office_state.specs.Verdict.{after}
+use Rattle.office_state.proofs.SoundOffices.{sound_edited, sound_full}
+use Rattle.office_state.proofs.EditSteps.{after_edit}
+use Rattle.office_state.proofs.office.Office.book_edit.Goals as goal
+
+pub invariant_of-self-2 : goal.invariant_of-self-2
+invariant_of-self-2 c =
+    let o = c.self.inside in
+    let done = c.in_ok-done.ensures in
+    sound_edited o.guide c.apply_edit.new.guide o.rows c.apply_edit.new.rows c.args.edit.now c.in_ok-done.done.code _ o.entries _ _ done.guide done.refused (done.sound (sound_full o.guide o.rows c.self.invariant.sound)) c.self.invariant.ids
+
+pub returns-clause-after : goal.returns-clause-after
+returns-clause-after c =
+    let o = c.self.inside in
+    let done = c.in_ok-done.ensures in
+    let v = c.in_ok-done.done in
+    let noted = c.note.ensures.noted ∙ ap (λ e. after_serial o.edits e c.number-2.result c.digest-digest.result v.code v.detail) c.number.ensures.same ∙ ap (λ n. after_serial o.edits c.args.editor n c.digest-digest.result v.code v.detail) c.number-2.ensures.same in
+    after_edit o.guide c.apply_edit.new.guide o.rows c.apply_edit.new.rows o.most_numbers o.entries o.cycles o.edits c.note.new.self c.args.editor c.args.serial c.args.edit.now c.digest-digest.result v
+    done.verdict done.guide done.refused done.rows done.rows_refused c.digest-digest.ensures.digest noted
+    ∙ ap (λ (w : OfficeState). record { state = after w.state (Edit c.args.editor c.args.serial c.args.edit.now); entries = w.entries + 1 }) c.self.view_is

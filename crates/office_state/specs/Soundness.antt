@@ -1,0 +1,9 @@
+-- What every office keeps.
+use Rattle.std.specs.Prelude.{◌+◌, ◌≤◌}
+use Rattle.msag_edits.specs.GuideSoundness.{AreSound}
+use Rattle.office_state.specs.OfficeState.{OfficeState}
+
+-- guide and rows are sound together, and each entry made one range at most
+pub record IsSoundOffice (office : OfficeState) : Type 0 where
+  pub sound : AreSound office.state.guide office.state.table
+  pub ids : office.state.guide.next ≤ office.entries + 1
