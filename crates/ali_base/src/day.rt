@@ -1,5 +1,5 @@
 //! Civil days.
-ghost use Rattle.std.specs.Prelude.{◌≡◌, ℕ, ◌≤◌, ◌<◌, List, length};
+ghost use Rattle.std.specs.Prelude.{◌≡◌, ◌≤◌, ◌<◌, length};
 ghost use Rattle.ali_base.specs.Numbers.{zero_padded};
 ghost use Rattle.ali_base.specs.CivilDay.{day_of, day_text, written_day, day_in_century, is_civil_date};
 

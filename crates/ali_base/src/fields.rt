@@ -1,5 +1,5 @@
 //! Columns of a text, the spaces in them, and the numbers that they spell.
-ghost use Rattle.std.specs.Prelude.{◌≡◌, ℕ, ◌+◌, ◌^◌, ◌<◌, ◌≤◌, List, length, IfSome};
+ghost use Rattle.std.specs.Prelude.{◌≡◌, ◌+◌, ◌^◌, ◌<◌, ◌≤◌, length, IfSome};
 ghost use Rattle.std.specs.List.{list_all};
 ghost use Rattle.ali_base.specs.Columns.{columns, is_printable, trimmed, front_trimmed, is_blank};
 ghost use Rattle.ali_base.specs.Digits.{digits_number};

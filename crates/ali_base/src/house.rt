@@ -1,5 +1,5 @@
 //! House numbers.
-ghost use Rattle.std.specs.Prelude.{◌≡◌, ℕ, ◌≤◌, nat_le, List, length};
+ghost use Rattle.std.specs.Prelude.{◌≡◌, ℕ, ◌≤◌, nat_le, length};
 ghost use Rattle.ali_base.specs.Steps.{when};
 ghost use Rattle.ali_base.specs.HouseNumber.{house_of, house_number, house_text};
 

@@ -1,5 +1,5 @@
 //! A sink in memory.
-ghost use Rattle.std.specs.Prelude.{◌≡◌, ℕ, ◌+◌, ◌≤◌, ◌==◌, ◌&&◌, not, List, [], ◌++◌, length, take, Some, IfOk, if◌then◌else◌};
+ghost use Rattle.std.specs.Prelude.{◌≡◌, ◌+◌, ◌≤◌, ◌==◌, ◌&&◌, not, [], ◌++◌, length, take, Some, IfOk, if◌then◌else◌};
 ghost use Rattle.ali_base.specs.Columns.{is_empty};
 ghost use Rattle.ali_base.specs.Faults.{one_more};
 ghost use Rattle.ali_base.specs.SinkCalls.{PutsWithin, PutsTo, PutCause};

@@ -1,5 +1,5 @@
 //! A source in memory, for tests and for callers that have the bytes.
-ghost use Rattle.std.specs.Prelude.{◌≡◌, ℕ, ◌≤◌, List, length, take, Some};
+ghost use Rattle.std.specs.Prelude.{◌≡◌, ◌≤◌, length, take, Some};
 ghost use Rattle.ali_base.specs.SourceCalls.{TakesWithin, TakesFrom, TakeCause};
 ghost use Rattle.ali_base.specs.MemorySource.{take_answer, after_take};
 

@@ -1,5 +1,5 @@
 //! Numbers of fixed width.
-ghost use Rattle.std.specs.Prelude.{◌≡◌, ℕ, ◌-◌, ◌^◌, ◌<◌, ◌≤◌, ◌++◌, length, replicate, IfSome};
+ghost use Rattle.std.specs.Prelude.{◌≡◌, ◌-◌, ◌^◌, ◌<◌, ◌≤◌, ◌++◌, length, replicate, IfSome};
 ghost use Rattle.ali_base.specs.Numbers.{fixed_number, zero_padded};
 
 use crate::fields::digits_number;

@@ -1,5 +1,5 @@
 //! The trusted edge: std's readers and writers as sources and sinks.
-ghost use Rattle.std.specs.Prelude.{◌≡◌, ℕ};
+ghost use Rattle.std.specs.Prelude.{◌≡◌};
 
 use crate::sink::{Put, Sink};
 use crate::source::{Source, Taken};

@@ -1,5 +1,5 @@
 //! Putting a whole text.
-ghost use Rattle.std.specs.Prelude.{◌≡◌, ℕ, ◌≤◌, List, length, OnOk, OnErr};
+ghost use Rattle.std.specs.Prelude.{◌≤◌, OnOk, OnErr};
 ghost use Rattle.std.specs.Io.KnownBytes.{Appends};
 ghost use Rattle.ali_base.specs.Faults.{Rose};
 ghost use Rattle.ali_base.specs.WholePuts.{AppendsPart};

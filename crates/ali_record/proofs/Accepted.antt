@@ -7,7 +7,7 @@ use Rattle.ali_base.specs.Columns.{is_printable}
 use Rattle.ali_base.specs.HouseNumber.{house_of}
 use Rattle.ali_base.specs.TelephoneNumber.{tn_of}
 use Rattle.ali_base.specs.CivilDay.{day_of}
-use Rattle.ali_base.specs.Company.{is_company, company_of}
+use Rattle.ali_base.specs.Company.{is_company}
 use Rattle.ali_record.specs.Layout.{field_of, byte_of}
 use Rattle.ali_record.specs.RecordReading.{IsAccepted, reading_code, conditions, first_code, is_function, sends_address, is_class_of_service, is_type_of_service}
 use Rattle.ali_record.specs.declared.field.Field.TheVariants.{Function, TelephoneNumber, HouseNumber, ExtractDate, ClassOfService, TypeOfService, Company, EndMark}
@@ -125,7 +125,3 @@ pub house_read : (b : Bool) (house : Option ℕ) → IsSome house → (b && is_n
 house_read true None h = cc
 house_read true (Some n) h = refl
 house_read false house h = refl
-
--- the company of its columns is one
-pub accepted-company : (b : List ℕ) → IsAccepted b → company_of (field_of b Company) ≡ Some (field_of b Company)
-accepted-company b h = ap (λ z. if z then Some (field_of b Company) else None) h.company

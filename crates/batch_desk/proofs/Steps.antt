@@ -1,5 +1,5 @@
 -- A job goes on entry by entry: the next one may be booked, and after it one fewer is left, until the job is complete.
-use Rattle.std.proofs.Common.{◌≡◌, ℕ, suc, ◌+◌, ◌-◌, ◌*◌, ◌≤◌, ◌==◌, Bool, true, false, List, [], ◌∷◌, length, drop, None, Result, Ok, Err, refl, ap, sym, ◌∙◌, subst, arith, if◌then◌else◌, ◌↔◌, ◌⊎◌, inl, inr}
+use Rattle.std.proofs.Common.{◌≡◌, ℕ, suc, ◌+◌, ◌-◌, ◌*◌, ◌≤◌, ◌==◌, Bool, true, false, List, [], ◌∷◌, length, drop, None, Result, Ok, Err, refl, ap, sym, ◌∙◌, subst, arith, if◌then◌else◌, ◌⊎◌, inl, inr}
 use Rattle.std.specs.List.{fold}
 use Rattle.std.proofs.lemmas.List.{length-drop}
 use Rattle.std.proofs.lemmas.Bool.Decides.{nat_tests}
@@ -15,7 +15,6 @@ use Rattle.sequence_once.specs.SerialStanding.{edit_of}
 use Rattle.sequence_once.specs.declared.standing.Standing.{Standing}
 use Rattle.sequence_once.specs.declared.standing.Standing.TheVariants.{New, Resume, Complete}
 use Rattle.sequence_once.specs.declared.standing.CycleFault.{CycleFault}
-use Rattle.sequence_once.specs.declared.standing.CycleFault.TheVariants as fault
 use Rattle.office_entry.specs.EditBytes.{edit_digest}
 use Rattle.office_entry.specs.Entries.{IsEntry}
 use Rattle.office_entry.specs.declared.edit.Edit.{Edit as GuideEdit}
@@ -160,31 +159,7 @@ entry_of_job : (s : State) (job : Job) (e : Entry) → IsKept s → IsJob job �
 entry_of_job s (File bytes) e kept is next = file_entry s bytes e kept.cycles is (file_standing s bytes) refl next
 entry_of_job s (Edit editor serial edit) e kept is next = edit_entry (entry.Edit editor serial edit) e is (edit_standing s editor serial edit) next
 
--- no fault of a standing is that of a complete job
-fault_known : (f : CycleFault) → standing_fault f ≡ due.Complete → ⊥
-fault_known (fault.Gap cycle) h = cc
-fault_known (fault.Differs kept sent) h = cc
-fault_known (fault.TooOld oldest) h = cc
-fault_known (fault.CompaniesFull limit) h = cc
-
-complete_by : (bytes : List ℕ) (r : Result Standing CycleFault) → next_by bytes r ≡ Err due.Complete → r ≡ Ok Complete
-complete_by bytes (Ok New) e = cc
-complete_by bytes (Ok (Resume line)) e = cc
-complete_by bytes (Ok Complete) e = refl
-complete_by bytes (Err f) e = absurd (fault_known f (let same : standing_fault f ≡ due.Complete = cc in same))
-
-complete_edit_by : (this : Entry) (r : Result Standing CycleFault) → ((line : ℕ) → r ≡ Ok (Resume line) → ⊥) → next_edit this r ≡ Err due.Complete → r ≡ Ok Complete
-complete_edit_by this (Ok New) once e = cc
-complete_edit_by this (Ok (Resume line)) once e = absurd (once line refl)
-complete_edit_by this (Ok Complete) once e = refl
-complete_edit_by this (Err f) once e = absurd (fault_known f (let same : standing_fault f ≡ due.Complete = cc in same))
-
--- there is none left exactly where the job is complete
-pub ends : (s : State) (job : Job) → (next_of s job ≡ Err due.Complete) ↔ (job_standing s job ≡ Ok Complete)
-ends s (File bytes) = (complete_by bytes (file_standing s bytes), ap (next_by bytes))
-ends s (Edit editor serial edit) = (complete_edit_by (entry.Edit editor serial edit) (edit_standing s editor serial edit) (not_resumed (edit_of editor s.edits) serial (edit_digest edit)), ap (next_edit (entry.Edit editor serial edit)))
-
--- and nothing is left then
+-- nothing is left of a complete job
 pub none_left : (s : State) (job : Job) → job_standing s job ≡ Ok Complete → entries_left s job ≡ []
 none_left s (File bytes) e = ap (left_by bytes) e
 none_left s (Edit editor serial edit) e = ap (left_edit (entry.Edit editor serial edit)) e

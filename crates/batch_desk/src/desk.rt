@@ -1,5 +1,5 @@
 //! The entries of a job, one after the other, and what is told of it.
-ghost use Rattle.std.specs.Prelude.{◌≡◌, ◌==◌, ℕ, ◌≤◌, not, [], ◌∷◌, ◌++◌, length, count_by, IfOk, Ok, OnOk, OnErr};
+ghost use Rattle.std.specs.Prelude.{◌≡◌, ◌==◌, ◌≤◌, not, [], ◌∷◌, ◌++◌, length, count_by, IfOk, Ok, OnOk, OnErr};
 ghost use Rattle.std.specs.Io.KnownBytes.{Appends};
 ghost use Rattle.ali_base.specs.Editors.{IsEditor};
 ghost use Rattle.ali_base.specs.Faults.{Rose};

@@ -1,5 +1,5 @@
 //! Files that are read.
-ghost use Rattle.std.specs.Prelude.{◌≡◌, ℕ, ◌≤◌, ◌-◌, [], length, slice_index_or, Some, MatchResult, IfOk};
+ghost use Rattle.std.specs.Prelude.{◌≡◌, ◌≤◌, ◌-◌, [], length, slice_index_or, Some, MatchResult, IfOk};
 ghost use Rattle.batch_frame.specs.FrameFault.{IsSomeFile, IsRead, frame_fault, file_of};
 ghost use Rattle.batch_frame.specs.Told.{frame_of};
 

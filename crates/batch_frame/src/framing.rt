@@ -1,7 +1,7 @@
 //! The bytes of a file as whole records, each followed by the separator.
-ghost use Rattle.std.specs.Prelude.{◌≡◌, ℕ, ◌+◌, ◌-◌, ◌*◌, ◌/◌, ◌≤◌, ◌^◌, ◌<◌, List, length, None, Some, MatchResult};
-ghost use Rattle.batch_frame.specs.CarrierFile.{separator_of, separator_bytes, piece_size, record_at};
-ghost use Rattle.batch_frame.specs.FrameFault.{length_fault, too_many_fault, separator_fault, is_followed, is_whole, least_failing, found};
+ghost use Rattle.std.specs.Prelude.{◌≡◌, ◌+◌, ◌-◌, ◌*◌, ◌/◌, ◌≤◌, ◌^◌, ◌<◌, length, None, Some, MatchResult};
+ghost use Rattle.batch_frame.specs.CarrierFile.{separator_of, piece_size, record_at};
+ghost use Rattle.batch_frame.specs.FrameFault.{length_fault, too_many_fault, separator_fault, is_followed, is_whole, found};
 
 use crate::fault::FrameFault;
 use crate::separator::Separator;

@@ -1,5 +1,5 @@
 //! Writing an error file.
-ghost use Rattle.std.specs.Prelude.{◌≡◌, ◌==◌, ℕ, ◌≤◌, not, count_by, length, OnOk, OnErr, IfOk};
+ghost use Rattle.std.specs.Prelude.{◌≡◌, ◌==◌, ◌≤◌, not, count_by, length, OnOk, OnErr, IfOk};
 ghost use Rattle.std.specs.Io.KnownBytes.{Appends};
 ghost use Rattle.ali_base.specs.Faults.{Rose};
 ghost use Rattle.ali_base.specs.WholePuts.{AppendsPart};

@@ -1,5 +1,5 @@
 //! The street guide: a list of ranges, and the id of the next one.
-ghost use Rattle.std.specs.Prelude.{◌≡◌, ℕ, ◌+◌, ◌<◌, ◌≤◌, ◌==◌, ◌&&◌, List, [], ◌∷◌, ◌++◌, length, find, position, IsSome, Some, None, IfOk, OnOk, IfErr, IfSome, Contains, true};
+ghost use Rattle.std.specs.Prelude.{◌≡◌, ◌+◌, ◌<◌, ◌≤◌, ◌==◌, ◌&&◌, [], ◌∷◌, ◌++◌, length, find, position, IsSome, Some, None, IfOk, OnOk, IfErr, IfSome, Contains, true};
 ghost use Rattle.std.specs.List.{list_any};
 ghost use Rattle.ali_base.specs.StreetKey.{same_key};
 ghost use Rattle.std.specs.Option.{option_copied};

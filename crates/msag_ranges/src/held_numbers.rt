@@ -1,5 +1,5 @@
 //! Which numbers a range holds, and all that is reckoned with parities.
-ghost use Rattle.std.specs.Prelude.{◌≡◌, ℕ, ◌+◌, ◌-◌, ◌^◌, ◌<◌, ◌≤◌, ◌%◌, ◌==◌, ◌&&◌, true, false, ◌↔◌, IsTrue};
+ghost use Rattle.std.specs.Prelude.{◌≡◌, ℕ, ◌+◌, ◌-◌, ◌^◌, ◌<◌, ◌%◌, ◌==◌, ◌&&◌, true, false, ◌↔◌, IsTrue};
 ghost use Rattle.std.specs.Option.{option_map_or};
 ghost use Rattle.ali_base.specs.StreetKey.{same_key};
 ghost use Rattle.ali_base.specs.StreetGuide.{HasSoundEnds, has_parity, holds, is_held, is_between_ends};

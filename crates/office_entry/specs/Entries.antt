@@ -1,5 +1,5 @@
 -- Entries of the booked history.
-use Rattle.std.specs.Prelude.{◌≡◌, ℕ, length}
+use Rattle.std.specs.Prelude.{◌≡◌, length}
 use Rattle.ali_base.specs.Editors.{IsEditor, IsSerial}
 use Rattle.office_entry.specs.Edits.{IsEdit}
 use Rattle.office_entry.specs.declared.entry.Entry.{Entry}

@@ -1,5 +1,5 @@
 //! Reading the bytes of an edit.
-ghost use Rattle.std.specs.Prelude.{◌≡◌, ℕ, length, option_map};
+ghost use Rattle.std.specs.Prelude.{◌≡◌, option_map};
 ghost use Rattle.ali_base.specs.Steps.{when};
 ghost use Rattle.ali_base.specs.Columns.{is_empty};
 ghost use Rattle.office_entry.specs.BytesReading.{front, number_at, key_at, add_from, retire_from, split_from, renumber_from, set_esn_from, edit_from};

@@ -1,5 +1,5 @@
 //! Reading the text of an edit.
-ghost use Rattle.std.specs.Prelude.{◌≡◌, ℕ, ◌≤◌, ◌<◌, ◌==◌, length, option_map, IfSome};
+ghost use Rattle.std.specs.Prelude.{◌≡◌, ◌≤◌, ◌<◌, ◌==◌, length, option_map, IfSome};
 ghost use Rattle.std.specs.List.{position};
 ghost use Rattle.office_entry.specs.EditReading.{number_of, small_of, difference_of, front_at, field_at, street_at, add_of, retire_of, split_of, renumber_of, set_esn_of, edit_of};
 

@@ -1,9 +1,8 @@
 //! Reading commands.
-ghost use Rattle.std.specs.Prelude.{◌≡◌, ℕ, ◌+◌, ◌<◌, ◌≤◌, ◌==◌, List, length, Option, Some, option_map, MatchOption, IfSome};
+ghost use Rattle.std.specs.Prelude.{◌≡◌, ◌+◌, ◌<◌, ◌≤◌, ◌==◌, length, Option, Some, option_map, IfSome};
 ghost use Rattle.std.specs.List.{position};
-ghost use Rattle.ali_base.specs.Columns.{is_space};
 ghost use Rattle.office_run.specs.ScriptGrammar as script;
-ghost use Rattle.office_run.specs.ScriptReading.{number_of, word_at, ask_of, edit_of_line, ask_or_edit, file_length_of, content_at, file_or_other, command_at, line_at, is_line_end};
+ghost use Rattle.office_run.specs.ScriptReading.{number_of, word_at, ask_of, edit_of_line, ask_or_edit, file_length_of, content_at, file_or_other, command_at, line_at};
 ghost use Rattle.office_run.specs.ParsedCommand.{command_of};
 
 use ali_base::{Editor, Serial, Tn, digits_number};

@@ -1,7 +1,6 @@
 //! The form that answers a request.
-ghost use Rattle.std.specs.Prelude.{◌≡◌, ℕ, ◌+◌, ◌≤◌, List, ◌++◌, length, take};
+ghost use Rattle.std.specs.Prelude.{◌≡◌, ◌+◌, ◌≤◌, ◌++◌, length, take};
 ghost use Rattle.std.specs.Option.{option_copied};
-ghost use Rattle.ali_record.specs.Layout.{field_columns};
 ghost use Rattle.text_line.specs.WordLines.{with_word};
 ghost use Rattle.office_state.specs.AnswerForm.{printed_house, missing_line, number_line, name_line, address_line, city_line, location_line, lock_word, company_line, row_form, form};
 

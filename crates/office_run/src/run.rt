@@ -1,7 +1,7 @@
 //! The call that does all that the program does.
-ghost use Rattle.std.specs.Prelude.{◌≡◌, ℕ, ◌↔◌, ◌≤◌, ◌≢◌, true, false, List, [], length};
+ghost use Rattle.std.specs.Prelude.{◌≡◌, ◌↔◌, ◌≤◌, ◌≢◌, true, false, length};
 ghost use Rattle.ali_base.specs.Faults.{Rose};
-ghost use Rattle.office_run.specs.ScriptInput.{script_limit, TookAll};
+ghost use Rattle.office_run.specs.ScriptInput.{script_limit};
 ghost use Rattle.office_run.specs.Machine.{start};
 ghost use Rattle.office_run.specs.MadeReply.{Keeps};
 ghost use Rattle.office_run.specs.Exit.{Exit, Completes};

@@ -378,6 +378,54 @@ fn addresses_are_checked(rt: HostRuntime) -> Result<(), Fail> {
     Ok(())
 }
 
+// The bytes of records that are lines, each with CR LF at its end.
+fn lines(alloc: Global, records: &[[u8; 512]]) -> Result<Vec<u8>, Fail> {
+    let mut lines = Vec::new(alloc);
+    for record in records {
+        lines.extend_from_slice(record)?;
+        lines.extend_from_slice(b"\r\n")?;
+    }
+    Ok(lines)
+}
+
+const LINES_BOOKED: &[u8] = b"READ FILE ABC01 1 3 0
+COMPLETE ABC01 1 3 0
+ERRORS 1028
+";
+
+const AFTER_THE_LINES: &[u8] = b"
+ANSWER 5 107
+TN 3035550100 CLASS 1 TYPE 0
+NAME JOHN SMITH
+ADDR 100 MAIN ST
+CITY DENVER CO
+LOC
+ESN 00101 CO ABC01 LOCKED
+";
+
+// A file whose records are lines, with coordinates in columns that are not read. None is refused, so the
+// error file has two lines, and their ends.
+#[test]
+fn a_file_of_lines(rt: HostRuntime) -> Result<(), Fail> {
+    let mut first = at_house(b'0', b"100   ");
+    put(&mut first, 300, b"+39.739236-104.990251");
+    let second = at_house(b'2', b"102   ");
+    let third = at_house(b'4', b"104   ");
+    let file = [header(b'1'), first, second, third, trailer(b'3')];
+    let mut script = STREET.to_vec(rt.alloc())?;
+    script.extend_from_slice(b"FILE 2570\n")?;
+    script.extend_from_slice(&lines(rt.alloc(), &file)?)?;
+    script.extend_from_slice(b"\nBATCH\nASK a 1 3035550100 5\n")?;
+    let ended = run(rt.alloc(), &script, &[], &[])?;
+    let mut expected = STREET_MADE.to_vec(rt.alloc())?;
+    expected.extend_from_slice(LINES_BOOKED)?;
+    expected.extend_from_slice(&lines(rt.alloc(), &[header(b'1'), trailer(b'0')])?)?;
+    expected.extend_from_slice(AFTER_THE_LINES)?;
+    assert_eq!(rt; ended.status, Status::Done);
+    assert_eq!(rt; ended.sink.bytes(), expected.as_slice());
+    Ok(())
+}
+
 const EDITS: &[u8] = b"EDIT 1 3 ADD DENVER|CO||OAK|ST||100|198|E|101
 EDIT 1 2 SPLIT 1 149 102
 BATCH

@@ -12,20 +12,12 @@ use Rattle.sequence_once.specs.declared.standing.Standing.TheVariants.{New, Resu
 use Rattle.sequence_once.specs.declared.standing.CycleFault.{CycleFault}
 use Rattle.sequence_once.specs.declared.standing.CycleFault.TheVariants.{Gap, Differs, CompaniesFull}
 use Rattle.sequence_once.proofs.Runs.{HasRoom, room_left}
-use Rattle.office_entry.specs.declared.entry.Entry.{Entry}
 use Rattle.office_entry.specs.declared.entry.Entry.TheVariants.{Open, Line}
-use Rattle.office_state.specs.declared.limits.Limits.{Limits}
 use Rattle.office_state.specs.OfficeState.{State}
 use Rattle.office_state.specs.Due.{due_line, line_of_last}
 use Rattle.office_state.specs.Verdict.{after, code_of, record_act}
-use Rattle.office_state.specs.History.{IsLegal, state}
 use Rattle.office_state.proofs.CycleRuns.{found, found_number, found_newest, found_unfinished, newest_holds}
 use Rattle.office_state.proofs.Steps.{sound_after, last_opened, last_noted}
-use Rattle.office_state.proofs.Histories.{sound_legal}
-
--- in a legal history the kept cycles are always sound
-pub sound_state : (limits : Limits) (history : List Entry) → IsLegal limits history → let later = state limits history in IsSound later.cycles
-sound_state = sound_legal
 
 -- a standing other than new passes the tests for the next cycle and for those beyond it
 kept_only : (next full beyond : Bool) (l g : ℕ) (rest : Result Standing CycleFault) (r : Standing) → (New ≡ r → ⊥) → (if next then (if full then Err (CompaniesFull l) else Ok New) else (if beyond then Err (Gap g) else rest)) ≡ Ok r → (next ≡ false) × (beyond ≡ false) × (rest ≡ Ok r)

@@ -18,7 +18,7 @@ ghost use Rattle.office_state.specs.EditReaders.{edit_shown};
 ghost use Rattle.office_state.specs.Due.{IsDue, due_of, due_line, opening_due};
 ghost use Rattle.office_state.specs.Refusals.{IsRefused};
 ghost use Rattle.office_state.specs.Verdict.{verdict, after, record_act, code_of, table_after};
-ghost use Rattle.office_state.specs.History.{IsLegal, Represents};
+ghost use Rattle.office_state.specs.History.{Represents};
 
 use crate::due::{edit_due, line_due, not_next};
 use crate::due_fault::DueFault;

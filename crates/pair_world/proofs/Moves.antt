@@ -13,7 +13,7 @@ use Rattle.pair_world.specs.World.{other, is_node, Shipment, Ack, Message, Ships
 use Rattle.pair_world.specs.Deliveries.{Answer, Behind, Have, Cut, Stored, Have_end, answer_in, answer, journal_after, ack_end, with_ack}
 use Rattle.pair_world.specs.SoundWorld.{Named, NamesOne, Tells, HasEnd, AckHolds}
 use Rattle.pair_world.proofs.Parts.{BookedParts, StepsBoth, Follows, InStep, IsOfTerm, AreDuties, Parts}
-use Rattle.pair_world.proofs.Lists.{epoch_at-append, epoch_at-push, Shares-less, Shares-none, Shares-epoch, Begins-length, Begins-Shares, Shares-Begins, Begins-refl, Begins-take, Begins-trans, Begins-more, Begins-Agree, Agree-sym}
+use Rattle.pair_world.proofs.Lists.{epoch_at-append, epoch_at-push, Shares-less, Shares-none, Shares-epoch, Begins-length, Begins-Shares, Shares-Begins, Begins-refl, Begins-trans, Begins-more, Begins-Agree, Agree-sym}
 use Rattle.pair_world.proofs.Deliveries.{Fits, nth_more, epoch_is, by_test, answer_fits}
 
 -- membership
@@ -47,9 +47,6 @@ Rising-Begins top xs ys b r =
       below = λ k l. let q = Shares-epoch s k l in let o = r.below k (omega (arith, s.left)) in omega arith;
     }
 
-Rising-take : {E : Type 0} (top n : ℕ) (xs : List (Frame E)) → Rising top xs → Rising top (take n xs)
-Rising-take top n xs r = Rising-Begins top xs (take n xs) (Begins-take n xs) r
-
 pub Legal-Begins : {E : Type 0} (due : List E → E → Type 0) (xs ys : List (Frame E)) → Begins xs ys → Legal due xs → Legal due ys
 Legal-Begins due xs ys b l k f h =
     let s = Begins-Shares b in
@@ -72,9 +69,6 @@ says_itself xs x fits None is = (fits, λ k more within. absurd (omega (arith, s
 
 ship_is : {E : Type 0} (a c : Shipment E) → ◌≡◌ {A = Message E} (Ships a) (Ships c) → a ≡ c
 ship_is a c e = cc
-
-frame_is : {E : Type 0} (a c : Frame E) → ◌≡◌ {A = Option (Frame E)} (Some a) (Some c) → a ≡ c
-frame_is a c e = cc
 
 pub slice_push : {A : Type 0} (xs : List A) (y x : A) (k : ℕ) → slice_get (xs ++ y ∷ []) k ≡ Some x → (slice_get xs k ≡ Some x) ⊎ ((k ≡ length xs) × (y ≡ x))
 slice_push [] y x zero h = inr (refl, cc)

@@ -15,9 +15,6 @@ use Rattle.pair_world.proofs.Doubts.{no_duty}
 use Rattle.pair_world.proofs.Schedules.{resolved_sound}
 use Rattle.pair_world.specs.SoundWorld.{IsMirrored, HasOldSuffix, FloorsRise, AreCounted, Invariant, IsSound}
 
-slice_at : {A : Type 0} (xs : List A) (k : ℕ) (x : A) → k ≡ length xs → slice_get xs k ≡ Some x → ⊥
-slice_at xs k x is h = absurd (omega (arith, (nth_more xs k x h).0))
-
 -- each entry is due: those of the history, and the one past it
 whole_legal : {E : Type 0} (due : List E → E → Type 0) (h xs : List (Frame E)) → Begins xs h → length xs ≤ suc (length h) → Legal due h → ((f : Frame E) → slice_get xs (length h) ≡ Some f → due (entries h) f.entry) → Legal due xs
 whole_legal {E} due h xs b more legal next k f is = elim (by_place (length h)) [

@@ -1,6 +1,5 @@
 //! Worked schedules, as runs of the definitions.
 ghost use Rattle.std.specs.Prelude.{[], ◌∷◌};
-ghost use Rattle.ali_base.specs.declared.names.NodeName.TheVariants.{A};
 ghost use Rattle.pair_world.specs.World.{formatted, without_doubt};
 ghost use Rattle.pair_world.specs.Step.{Write, Deliver, Book, Pair_up, Go_alone, Runs};
 ghost use Rattle.pair_world.specs.WorkedSchedules.{office_bounds, IsNotDone, old_shipment, after_old_shipment, deposed_holder, after_deposed_holder, suffix_cut, after_suffix_cut, stored_then_taken, after_stored_then_taken, written_in_both, after_written_in_both, booked_alone, after_booked_alone, paired_again, after_paired_again, failed_takeover, after_failed_takeover};

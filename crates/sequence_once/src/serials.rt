@@ -1,8 +1,8 @@
 //! The last edits of all editors.
-ghost use Rattle.std.specs.Prelude.{◌≡◌, ◌≢◌, ℕ, ◌+◌, ◌<◌, ◌≤◌, option_map, IfOk, Some, Ok, Err, ◌↔◌};
+ghost use Rattle.std.specs.Prelude.{◌≡◌, ◌≢◌, ℕ, ◌+◌, ◌<◌, option_map, IfOk, Some, Ok, Err, ◌↔◌};
 ghost use Rattle.std.specs.Option.{option_copied};
 ghost use Rattle.ali_base.specs.Editors.{IsEditor, IsSerial};
-ghost use Rattle.sequence_once.specs.SerialStanding.{EditRecord, HasSerial, AreKeptEdits, no_edits, edit_of, last_serial, last_digest, serial_repeated, serial_standing, after_serial, edit_record};
+ghost use Rattle.sequence_once.specs.SerialStanding.{EditRecord, AreKeptEdits, no_edits, edit_of, last_serial, last_digest, serial_repeated, serial_standing, after_serial, edit_record};
 ghost use Rattle.sequence_once.specs.declared.standing.Standing.TheVariants.{New, Complete};
 ghost use Rattle.sequence_once.specs.declared.standing.CycleFault.TheVariants.{Gap, Differs, TooOld};
 
