@@ -1,8 +1,7 @@
 //! The ESN that a record was sent with.
-ghost use Rattle.std.specs.Prelude.{◌≡◌, ◌||◌};
+ghost use Rattle.std.specs.Prelude.{◌≡◌};
 ghost use Rattle.std.specs.Str.{bytes_eq};
 ghost use Rattle.std.specs.Fmt.{decimal};
-ghost use Rattle.ali_base.specs.Columns.{trimmed, front_trimmed, is_blank};
 ghost use Rattle.ali_base.specs.Placement.{esn_agrees, zeros_cut};
 
 use ali_base::{Esn, front_trimmed, is_blank, trimmed};

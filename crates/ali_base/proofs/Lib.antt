@@ -1,3 +1,4 @@
 pub mod Digits
 pub mod Trimming
 pub mod PutBytes
+pub mod Steps

@@ -1,6 +1,5 @@
 //! The name of a street, by which its ranges are found.
-ghost use Rattle.std.specs.Prelude.{◌≡◌, ◌≤◌, ◌-◌, map, length};
-ghost use Rattle.ali_base.specs.Columns.{trimmed};
+ghost use Rattle.std.specs.Prelude.{◌≡◌, ◌≤◌, map, length};
 ghost use Rattle.ali_base.specs.StreetKey.{street_key, key_field, upper};
 
 use crate::fields::trimmed;

@@ -1,7 +1,6 @@
 //! The address in a record, and the emergency service number sent with it.
-ghost use Rattle.std.specs.Prelude.{◌≡◌, Option, None};
-ghost use Rattle.ali_base.specs.Columns.{trimmed, front_trimmed, is_blank};
-ghost use Rattle.ali_base.specs.Digits.{digits_number};
+ghost use Rattle.std.specs.Prelude.{◌≡◌};
+ghost use Rattle.ali_base.specs.Columns.{is_blank};
 ghost use Rattle.ali_record.specs.Layout.{field_of};
 ghost use Rattle.ali_record.specs.Address.{record_key, esn_number};
 

@@ -1,5 +1,5 @@
 //! Reading a record.
-ghost use Rattle.std.specs.Prelude.{◌≡◌, ◌≢◌, ℕ, ◌+◌, ◌-◌, ◌≤◌, List, length, true, Some, IsSome, MatchResult};
+ghost use Rattle.std.specs.Prelude.{◌≡◌, ◌≢◌, ℕ, ◌+◌, ◌≤◌, List, length, true, Some, IsSome, MatchResult};
 ghost use Rattle.ali_base.specs.Columns.{trimmed, is_blank};
 ghost use Rattle.ali_base.specs.HouseNumber.{house_of};
 ghost use Rattle.ali_base.specs.CivilDay.{day_of};

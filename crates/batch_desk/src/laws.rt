@@ -1,5 +1,5 @@
 //! Laws of jobs.
-ghost use Rattle.std.specs.Prelude.{◌≡◌, ◌+◌, List, [], ◌++◌, Ok};
+ghost use Rattle.std.specs.Prelude.{◌≡◌, List, [], ◌++◌, Ok};
 ghost use Rattle.sequence_once.specs.declared.standing.Standing.{Standing};
 ghost use Rattle.sequence_once.specs.declared.standing.Standing.TheVariants.{Complete};
 ghost use Rattle.office_entry.specs.declared.entry.Entry.{Entry};

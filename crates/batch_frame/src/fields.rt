@@ -1,5 +1,5 @@
 //! The fields of a header and of a trailer.
-ghost use Rattle.std.specs.Prelude.{◌≡◌, ◌<◌, option_map, None, Some, MatchResult};
+ghost use Rattle.std.specs.Prelude.{◌≡◌, option_map, None, Some, MatchResult};
 ghost use Rattle.ali_base.specs.Columns.{columns};
 ghost use Rattle.ali_base.specs.Company.{company_of};
 ghost use Rattle.ali_base.specs.Numbers.{cycle_of};

@@ -1,5 +1,5 @@
 //! The bytes of a file as whole records, each followed by the separator.
-ghost use Rattle.std.specs.Prelude.{◌≡◌, ◌+◌, ◌-◌, ◌*◌, ◌/◌, ◌≤◌, ◌^◌, ◌<◌, length, None, Some, MatchResult};
+ghost use Rattle.std.specs.Prelude.{◌≡◌, ◌+◌, ◌*◌, ◌≤◌, ◌^◌, ◌<◌, length, None, Some, MatchResult};
 ghost use Rattle.batch_frame.specs.CarrierFile.{separator_of, piece_size, record_at};
 ghost use Rattle.batch_frame.specs.FrameFault.{length_fault, too_many_fault, separator_fault, is_followed, is_whole, found};
 

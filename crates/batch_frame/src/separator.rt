@@ -1,5 +1,5 @@
 //! What follows each record of a file.
-ghost use Rattle.std.specs.Prelude.{◌≡◌, ◌+◌};
+ghost use Rattle.std.specs.Prelude.{◌≡◌};
 ghost use Rattle.batch_frame.specs.CarrierFile.{separator_bytes, piece_size};
 
 /// What follows each record of a carrier's file.

@@ -1,7 +1,7 @@
 //! Ranges with a difference added, and the ends of the parts of a split.
 ghost use Rattle.std.specs.Prelude.{◌≡◌, ◌≤◌, ◌&&◌};
 ghost use Rattle.ali_base.specs.Steps.{when};
-ghost use Rattle.number_table.specs.HouseArithmetic.{added, stays_house};
+ghost use Rattle.number_table.specs.HouseArithmetic.{stays_house};
 ghost use Rattle.msag_edits.specs.HouseArithmetic.{is_odd, is_one_parity, last_to, first_above};
 ghost use Rattle.msag_edits.specs.EditRules.{shifted, has_empty_part};
 

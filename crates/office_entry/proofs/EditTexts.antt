@@ -12,10 +12,13 @@ use Rattle.office_entry.specs.declared.edit.Edit.TheVariants.{Add, Retire, Split
 use Rattle.office_entry.specs.EditKeys.{is_edit_key, edit_key, IsEditKey}
 use Rattle.office_entry.specs.Edits.{IsEdit, IsAdd}
 use Rattle.office_entry.specs.EditText.{StreetTexts, AreStreetTexts, key_of, street_text, difference_text, Spells, IsEditText}
-use Rattle.office_entry.specs.EditReading.{number_of, small_of, difference_of, front_at, street_at, add_of, retire_of, split_of, renumber_of, set_esn_of, by_word, edit_of}
-use Rattle.office_entry.proofs.Options.{bind_ok, bind_some, some_is, when_true, choose}
-use Rattle.office_entry.proofs.NumberTexts.{number_of-decimal, decimal-number_of, small-small_of, small_of-decimal, difference-difference_of, difference_of-text}
-use Rattle.office_entry.proofs.Marks.{Clear, front_again, front_is, spaceless, barless}
+use Rattle.text_line.specs.WordReading.{number_of, split_once}
+use Rattle.text_line.proofs.NumberTexts.{number_of-decimal, decimal-number_of}
+use Rattle.text_line.proofs.Splits.{Clear, split_again, split_is, decimal_clear}
+use Rattle.office_entry.specs.EditReading.{small_of, difference_of, street_at, add_of, retire_of, split_of, renumber_of, set_esn_of, by_word, edit_of}
+use Rattle.ali_base.proofs.Steps.{bind_ok, bind_some, some_is}
+use Rattle.office_entry.proofs.Options.{when_true, choose}
+use Rattle.office_entry.proofs.NumberTexts.{small-small_of, small_of-decimal, difference-difference_of, difference_of-text}
 use Rattle.office_entry.proofs.StreetTexts.{key_lawful, texts_lawful, key_of_lawful, street_is, street_again}
 use Rattle.office_entry.proofs.EditsOfBytes.{parity-parity_of, parity_of-parity, key_is}
 
@@ -34,16 +37,16 @@ retire_read rest e h =
 split_read : (rest : List ℕ) (e : Edit) → split_of rest ≡ Some e → Reads (codes "SPLIT") rest e
 unfolding split_of
 split_read rest e h =
-    let a = bind_ok (front_at 32 rest) _ e h in
-    let b = bind_ok (front_at 32 a.0.1) _ e a.2 in
+    let a = bind_ok (split_once 32 rest) _ e h in
+    let b = bind_ok (split_once 32 a.0.1) _ e a.2 in
     let i = bind_ok (number_of a.0.0) _ e b.2 in
     let at = bind_ok (small_of b.0.0) _ e i.2 in
     let esn = bind_ok (small_of b.0.1) _ e at.2 in
     let id_is = decimal-number_of a.0.0 i.0 i.1 in
     let at_is = small-small_of b.0.0 at.0 at.1 in
     let esn_is = small-small_of b.0.1 esn.0 esn.1 in
-    let last : a.0.1 ≡ decimal at.0 ++ 32 ∷ decimal esn.0 = front_is 32 a.0.1 b.0 b.1 ∙ ap (λ z. z ++ 32 ∷ b.0.1) at_is.0 ∙ ap (λ z. decimal at.0 ++ 32 ∷ z) esn_is.0 in
-    let all : rest ≡ decimal i.0 ++ 32 ∷ (decimal at.0 ++ 32 ∷ decimal esn.0) = front_is 32 rest a.0 a.1 ∙ ap (λ z. z ++ 32 ∷ a.0.1) id_is.0 ∙ ap (λ z. decimal i.0 ++ 32 ∷ z) last in
+    let last : a.0.1 ≡ decimal at.0 ++ 32 ∷ decimal esn.0 = split_is 32 a.0.1 b.0 b.1 ∙ ap (λ z. z ++ 32 ∷ b.0.1) at_is.0 ∙ ap (λ z. decimal at.0 ++ 32 ∷ z) esn_is.0 in
+    let all : rest ≡ decimal i.0 ++ 32 ∷ (decimal at.0 ++ 32 ∷ decimal esn.0) = split_is 32 rest a.0 a.1 ∙ ap (λ z. z ++ 32 ∷ a.0.1) id_is.0 ∙ ap (λ z. decimal i.0 ++ 32 ∷ z) last in
     subst (λ (z : Edit). Reads (codes "SPLIT") rest z) (some_is (Split i.0 at.0 esn.0) e esn.2) (
     record { lawful = record { range = id_is.1; place = at_is.1; number = esn_is.1 }; spelled = ap (λ z. codes "SPLIT" ++ 32 ∷ z) all }
     )
@@ -51,27 +54,27 @@ split_read rest e h =
 renumber_read : (rest : List ℕ) (e : Edit) → renumber_of rest ≡ Some e → Reads (codes "RENUMBER") rest e
 unfolding renumber_of
 renumber_read rest e h =
-    let a = bind_ok (front_at 32 rest) _ e h in
+    let a = bind_ok (split_once 32 rest) _ e h in
     let i = bind_ok (number_of a.0.0) _ e a.2 in
     let by = bind_ok (difference_of a.0.1) _ e i.2 in
     let id_is = decimal-number_of a.0.0 i.0 i.1 in
     let by_is = difference-difference_of a.0.1 by.0 by.1 in
-    let all : rest ≡ decimal i.0 ++ 32 ∷ difference_text by.0 = front_is 32 rest a.0 a.1 ∙ ap (λ z. z ++ 32 ∷ a.0.1) id_is.0 ∙ ap (λ z. decimal i.0 ++ 32 ∷ z) by_is.0 in
+    let all : rest ≡ decimal i.0 ++ 32 ∷ difference_text by.0 = split_is 32 rest a.0 a.1 ∙ ap (λ z. z ++ 32 ∷ a.0.1) id_is.0 ∙ ap (λ z. decimal i.0 ++ 32 ∷ z) by_is.0 in
     subst (λ (z : Edit). Reads (codes "RENUMBER") rest z) (some_is (Renumber i.0 by.0) e by.2) (record { lawful = (id_is.1, by_is.1); spelled = ap (λ z. codes "RENUMBER" ++ 32 ∷ z) all })
 
 set_esn_read : (rest : List ℕ) (e : Edit) → set_esn_of rest ≡ Some e → Reads (codes "SETESN") rest e
 unfolding set_esn_of
 set_esn_read rest e h =
-    let a = bind_ok (front_at 32 rest) _ e h in
+    let a = bind_ok (split_once 32 rest) _ e h in
     let i = bind_ok (number_of a.0.0) _ e a.2 in
     let esn = bind_ok (small_of a.0.1) _ e i.2 in
     let id_is = decimal-number_of a.0.0 i.0 i.1 in
     let esn_is = small-small_of a.0.1 esn.0 esn.1 in
-    let all : rest ≡ decimal i.0 ++ 32 ∷ decimal esn.0 = front_is 32 rest a.0 a.1 ∙ ap (λ z. z ++ 32 ∷ a.0.1) id_is.0 ∙ ap (λ z. decimal i.0 ++ 32 ∷ z) esn_is.0 in
+    let all : rest ≡ decimal i.0 ++ 32 ∷ decimal esn.0 = split_is 32 rest a.0 a.1 ∙ ap (λ z. z ++ 32 ∷ a.0.1) id_is.0 ∙ ap (λ z. decimal i.0 ++ 32 ∷ z) esn_is.0 in
     subst (λ (z : Edit). Reads (codes "SETESN") rest z) (some_is (SetEsn i.0 esn.0) e esn.2) (record { lawful = (id_is.1, esn_is.1); spelled = ap (λ z. codes "SETESN" ++ 32 ∷ z) all })
 
 add_made : (rest : List ℕ) (k : StreetKey × List ℕ) (l m q : List ℕ × List ℕ) (key : StreetKey) (low high : ℕ) (parity : Parity) (esn : ℕ)
-    → street_at rest ≡ Some k → front_at 124 k.1 ≡ Some l → front_at 124 l.1 ≡ Some m → front_at 124 m.1 ≡ Some q
+    → street_at rest ≡ Some k → split_once 124 k.1 ≡ Some l → split_once 124 l.1 ≡ Some m → split_once 124 m.1 ≡ Some q
     → edit_key k.0 ≡ Some key → small_of l.0 ≡ Some low → small_of m.0 ≡ Some high → parity_of q.0 ≡ Some parity → small_of q.1 ≡ Some esn
     → Reads (codes "ADD") rest (Add key low high parity esn)
 add_made rest k l m q key low high parity esn k_h l_h m_h q_h key_h low_h high_h parity_h esn_h =
@@ -84,9 +87,9 @@ add_made rest k l m q key low high parity esn k_h l_h m_h q_h key_h low_h high_h
     let high_is = small-small_of m.0 high high_h in
     let parity_is = parity-parity_of q.0 parity parity_h in
     let esn_is = small-small_of q.1 esn esn_h in
-    let tail2 : m.1 ≡ parity_text parity ++ 124 ∷ decimal esn = front_is 124 m.1 q q_h ∙ ap (λ z. z ++ 124 ∷ q.1) parity_is ∙ ap (λ z. parity_text parity ++ 124 ∷ z) esn_is.0 in
-    let tail1 : l.1 ≡ decimal high ++ 124 ∷ (parity_text parity ++ 124 ∷ decimal esn) = front_is 124 l.1 m m_h ∙ ap (λ z. z ++ 124 ∷ m.1) high_is.0 ∙ ap (λ z. decimal high ++ 124 ∷ z) tail2 in
-    let tail0 : k.1 ≡ decimal low ++ 124 ∷ (decimal high ++ 124 ∷ (parity_text parity ++ 124 ∷ decimal esn)) = front_is 124 k.1 l l_h ∙ ap (λ z. z ++ 124 ∷ l.1) low_is.0 ∙ ap (λ z. decimal low ++ 124 ∷ z) tail1 in
+    let tail2 : m.1 ≡ parity_text parity ++ 124 ∷ decimal esn = split_is 124 m.1 q q_h ∙ ap (λ z. z ++ 124 ∷ q.1) parity_is ∙ ap (λ z. parity_text parity ++ 124 ∷ z) esn_is.0 in
+    let tail1 : l.1 ≡ decimal high ++ 124 ∷ (parity_text parity ++ 124 ∷ decimal esn) = split_is 124 l.1 m m_h ∙ ap (λ z. z ++ 124 ∷ m.1) high_is.0 ∙ ap (λ z. decimal high ++ 124 ∷ z) tail2 in
+    let tail0 : k.1 ≡ decimal low ++ 124 ∷ (decimal high ++ 124 ∷ (parity_text parity ++ 124 ∷ decimal esn)) = split_is 124 k.1 l l_h ∙ ap (λ z. z ++ 124 ∷ l.1) low_is.0 ∙ ap (λ z. decimal low ++ 124 ∷ z) tail1 in
     let street_lawful : IsEditKey key = subst IsEditKey (sym named) (key_lawful texts street.1 test) in
     record {
       lawful = record { street = street_lawful; low_end = low_is.1; high_end = high_is.1; number = esn_is.1 };
@@ -97,9 +100,9 @@ add_read : (rest : List ℕ) (e : Edit) → add_of rest ≡ Some e → Reads (co
 unfolding add_of
 add_read rest e h =
     let k = bind_ok (street_at rest) _ e h in
-    let l = bind_ok (front_at 124 k.0.1) _ e k.2 in
-    let m = bind_ok (front_at 124 l.0.1) _ e l.2 in
-    let q = bind_ok (front_at 124 m.0.1) _ e m.2 in
+    let l = bind_ok (split_once 124 k.0.1) _ e k.2 in
+    let m = bind_ok (split_once 124 l.0.1) _ e l.2 in
+    let q = bind_ok (split_once 124 m.0.1) _ e m.2 in
     let key = bind_ok (edit_key k.0.0) _ e q.2 in
     let low = bind_ok (small_of l.0.0) _ e key.2 in
     let high = bind_ok (small_of m.0.0) _ e low.2 in
@@ -133,8 +136,8 @@ word_read word rest e h =
 pub text_read : (bytes : List ℕ) (e : Edit) → edit_of bytes ≡ Some e → IsEditText bytes e
 unfolding edit_of
 text_read bytes e h =
-    let a = bind_ok (front_at 32 bytes) _ e h in
-    subst (λ (z : List ℕ). IsEditText z e) (sym (front_is 32 bytes a.0 a.1)) (word_read a.0.0 a.0.1 e a.2)
+    let a = bind_ok (split_once 32 bytes) _ e h in
+    subst (λ (z : List ℕ). IsEditText z e) (sym (split_is 32 bytes a.0 a.1)) (word_read a.0.0 a.0.1 e a.2)
 
 -- ---- what is spelled so is read
 
@@ -148,9 +151,9 @@ add_again : (key : StreetKey) (texts : StreetTexts) (low high : ℕ) (parity : P
 unfolding add_of
 add_again key texts low high parity esn sent named h =
     bind_some _ _ _ _ (street_again texts (decimal low ++ 124 ∷ (decimal high ++ 124 ∷ (parity_text parity ++ 124 ∷ decimal esn))) sent)
-    (bind_some _ _ _ _ (front_again 124 (decimal low) (decimal high ++ 124 ∷ (parity_text parity ++ 124 ∷ decimal esn)) (barless low (omega (arith, h.low_end))))
-    (bind_some _ _ _ _ (front_again 124 (decimal high) (parity_text parity ++ 124 ∷ decimal esn) (barless high (omega (arith, h.high_end))))
-    (bind_some _ _ _ _ (front_again 124 (parity_text parity) (decimal esn) (parity_barless parity))
+    (bind_some _ _ _ _ (split_again 124 (decimal low) (decimal high ++ 124 ∷ (parity_text parity ++ 124 ∷ decimal esn)) (decimal_clear 124 refl low (omega (arith, h.low_end))))
+    (bind_some _ _ _ _ (split_again 124 (decimal high) (parity_text parity ++ 124 ∷ decimal esn) (decimal_clear 124 refl high (omega (arith, h.high_end))))
+    (bind_some _ _ _ _ (split_again 124 (parity_text parity) (decimal esn) (parity_barless parity))
     (bind_some _ _ _ _ (when_true (is_edit_key (key_of texts)) (key_of texts) (key_of_lawful texts sent))
     (bind_some _ _ _ _ (small_of-decimal low h.low_end)
     (bind_some _ _ _ _ (small_of-decimal high h.high_end)
@@ -161,30 +164,30 @@ again : (e : Edit) (bytes : List ℕ) → IsEdit e → Spells bytes e → edit_o
 unfolding edit_of retire_of split_of renumber_of set_esn_of
 again (Add key low high parity esn) bytes h s =
     ap edit_of s.spelled
-    ∙ bind_some _ _ _ _ (front_again 32 (codes "ADD") (street_text s.texts (decimal low ++ 124 ∷ (decimal high ++ 124 ∷ (parity_text parity ++ 124 ∷ decimal esn)))) (refl, (refl, (refl, tt))))
+    ∙ bind_some _ _ _ _ (split_again 32 (codes "ADD") (street_text s.texts (decimal low ++ 124 ∷ (decimal high ++ 124 ∷ (parity_text parity ++ 124 ∷ decimal esn)))) (refl, (refl, (refl, tt))))
     (add_again key s.texts low high parity esn s.lawful s.named h)
 again (Retire id) bytes h s =
     ap edit_of s
-    ∙ bind_some _ _ _ _ (front_again 32 (codes "RETIRE") (decimal id) (refl, (refl, (refl, (refl, (refl, (refl, tt)))))))
+    ∙ bind_some _ _ _ _ (split_again 32 (codes "RETIRE") (decimal id) (refl, (refl, (refl, (refl, (refl, (refl, tt)))))))
     (bind_some _ _ _ _ (number_of-decimal id h) refl)
 again (Split id at esn) bytes h s =
     ap edit_of s
-    ∙ bind_some _ _ _ _ (front_again 32 (codes "SPLIT") (decimal id ++ 32 ∷ (decimal at ++ 32 ∷ decimal esn)) (refl, (refl, (refl, (refl, (refl, tt))))))
-    (bind_some _ _ _ _ (front_again 32 (decimal id) (decimal at ++ 32 ∷ decimal esn) (spaceless id h.range))
-    (bind_some _ _ _ _ (front_again 32 (decimal at) (decimal esn) (spaceless at (omega (arith, h.place))))
+    ∙ bind_some _ _ _ _ (split_again 32 (codes "SPLIT") (decimal id ++ 32 ∷ (decimal at ++ 32 ∷ decimal esn)) (refl, (refl, (refl, (refl, (refl, tt))))))
+    (bind_some _ _ _ _ (split_again 32 (decimal id) (decimal at ++ 32 ∷ decimal esn) (decimal_clear 32 refl id h.range))
+    (bind_some _ _ _ _ (split_again 32 (decimal at) (decimal esn) (decimal_clear 32 refl at (omega (arith, h.place))))
     (bind_some _ _ _ _ (number_of-decimal id h.range)
     (bind_some _ _ _ _ (small_of-decimal at h.place)
     (bind_some _ _ _ _ (small_of-decimal esn h.number) refl)))))
 again (Renumber id by) bytes h s =
     ap edit_of s
-    ∙ bind_some _ _ _ _ (front_again 32 (codes "RENUMBER") (decimal id ++ 32 ∷ difference_text by) (refl, (refl, (refl, (refl, (refl, (refl, (refl, (refl, tt)))))))))
-    (bind_some _ _ _ _ (front_again 32 (decimal id) (difference_text by) (spaceless id h.0))
+    ∙ bind_some _ _ _ _ (split_again 32 (codes "RENUMBER") (decimal id ++ 32 ∷ difference_text by) (refl, (refl, (refl, (refl, (refl, (refl, (refl, (refl, tt)))))))))
+    (bind_some _ _ _ _ (split_again 32 (decimal id) (difference_text by) (decimal_clear 32 refl id h.0))
     (bind_some _ _ _ _ (number_of-decimal id h.0)
     (bind_some _ _ _ _ (difference_of-text by h.1) refl)))
 again (SetEsn id esn) bytes h s =
     ap edit_of s
-    ∙ bind_some _ _ _ _ (front_again 32 (codes "SETESN") (decimal id ++ 32 ∷ decimal esn) (refl, (refl, (refl, (refl, (refl, (refl, tt)))))))
-    (bind_some _ _ _ _ (front_again 32 (decimal id) (decimal esn) (spaceless id h.0))
+    ∙ bind_some _ _ _ _ (split_again 32 (codes "SETESN") (decimal id ++ 32 ∷ decimal esn) (refl, (refl, (refl, (refl, (refl, (refl, tt)))))))
+    (bind_some _ _ _ _ (split_again 32 (decimal id) (decimal esn) (decimal_clear 32 refl id h.0))
     (bind_some _ _ _ _ (number_of-decimal id h.0)
     (bind_some _ _ _ _ (small_of-decimal esn h.1) refl)))
 

@@ -16,7 +16,9 @@ use Rattle.office_entry.specs.EditKeys.{is_edit_key, edit_key}
 use Rattle.office_entry.specs.Edits.{small_number, IsEdit, IsAdd}
 use Rattle.office_entry.specs.EditBytes.{number_bytes, difference_bytes, key_bytes, edit_bytes}
 use Rattle.office_entry.specs.BytesReading.{front, number_at, key_at, add_from, retire_from, split_from, renumber_from, set_esn_from, edit_from}
-use Rattle.office_entry.proofs.Options.{bind_ok, bind_some, some_is, when_is, when_true, choose, small_is, small_again}
+use Rattle.std.proofs.lemmas.Option.{cond_some}
+use Rattle.ali_base.proofs.Steps.{bind_ok, bind_some, some_is}
+use Rattle.office_entry.proofs.Options.{when_true, choose, small_is, small_again}
 use Rattle.office_entry.proofs.FieldBytes.{IsBytes, Takes, Takes-then, Takes-all, front_takes, front_again, number_takes, number_again, key_takes, key_again, HasWidths}
 
 -- the edit has these bytes
@@ -50,7 +52,7 @@ parity_of-parity Both = refl
 
 pub key_is : (k : StreetKey) (key : StreetKey) → edit_key k ≡ Some key → (is_edit_key key ≡ true) × (k ≡ key)
 key_is k key h =
-    let w = when_is (is_edit_key k) k key h in
+    let w = cond_some (is_edit_key k) k key h in
     (subst (λ (z : StreetKey). is_edit_key z ≡ true) w.1 w.0, w.1)
 
 -- ---- what is read has these bytes
@@ -60,7 +62,7 @@ unfolding retire_from
 retire_found bytes e fits h =
     let a = bind_ok (number_at bytes) _ e h in
     let t = number_takes bytes a.0 fits a.1 in
-    let w = when_is (is_empty a.0.1) (Retire a.0.0) e a.2 in
+    let w = cond_some (is_empty a.0.1) (Retire a.0.0) e a.2 in
     subst (λ (z : Edit). Found (82 ∷ bytes) z) w.1 (t.1, ap (λ z. 82 ∷ z) (Takes-all bytes (number_bytes a.0.0) a.0.1 t.0 w.0))
 
 split_found : (bytes : List ℕ) (e : Edit) → IsBytes bytes → split_from bytes ≡ Some e → Found (83 ∷ bytes) e
@@ -71,7 +73,7 @@ split_found bytes e fits h =
     let d = bind_ok (number_at b.0.1) _ e b.2 in
     let at = bind_ok (small_number b.0.0) _ e d.2 in
     let esn = bind_ok (small_number d.0.0) _ e at.2 in
-    let w = when_is (is_empty d.0.1) (Split a.0.0 at.0 esn.0) e esn.2 in
+    let w = cond_some (is_empty d.0.1) (Split a.0.0 at.0 esn.0) e esn.2 in
     let ta = number_takes bytes a.0 fits a.1 in
     let tb = number_takes a.0.1 b.0 ta.0.fits b.1 in
     let td = number_takes b.0.1 d.0 tb.0.fits d.1 in
@@ -89,7 +91,7 @@ set_esn_found bytes e fits h =
     let a = bind_ok (number_at bytes) _ e h in
     let b = bind_ok (number_at a.0.1) _ e a.2 in
     let esn = bind_ok (small_number b.0.0) _ e b.2 in
-    let w = when_is (is_empty b.0.1) (SetEsn a.0.0 esn.0) e esn.2 in
+    let w = cond_some (is_empty b.0.1) (SetEsn a.0.0 esn.0) e esn.2 in
     let ta = number_takes bytes a.0 fits a.1 in
     let tb = number_takes a.0.1 b.0 ta.0.fits b.1 in
     let esn_is = small_is b.0.0 esn.0 esn.1 in
@@ -103,10 +105,10 @@ renumber_found bytes e fits h =
     let a = bind_ok (number_at bytes) _ e h in
     let b = bind_ok (number_at a.0.1) _ e a.2 in
     let by = bind_ok (small_difference (cast_signed w32 b.0.0)) _ e b.2 in
-    let w = when_is (is_empty b.0.1) (Renumber a.0.0 by.0) e by.2 in
+    let w = cond_some (is_empty b.0.1) (Renumber a.0.0 by.0) e by.2 in
     let ta = number_takes bytes a.0 fits a.1 in
     let tb = number_takes a.0.1 b.0 ta.0.fits b.1 in
-    let test = when_is (is_small_difference (cast_signed w32 b.0.0)) (cast_signed w32 b.0.0) by.0 by.1 in
+    let test = cond_some (is_small_difference (cast_signed w32 b.0.0)) (cast_signed w32 b.0.0) by.0 by.1 in
     let small : is_small_difference by.0 ≡ true = subst (λ (z : ℤ). is_small_difference z ≡ true) test.1 test.0 in
     let le : magnitude by.0 ≤ 999_999 = grind (arith, nat_tests) in
     let back : cast_unsigned w32 (cast_signed w32 b.0.0) ≡ b.0.0 = of_z-to_z w32 b.0.0 tb.1 in
@@ -161,7 +163,7 @@ add_found bytes e fits h =
     let high = bind_ok (small_number m.0.0) _ e low.2 in
     let parity = bind_ok (parity_of p.0.0) _ e high.2 in
     let esn = bind_ok (small_number n.0.0) _ e parity.2 in
-    let w = when_is (is_empty n.0.1) (Add key.0 low.0 high.0 parity.0 esn.0) e esn.2 in
+    let w = cond_some (is_empty n.0.1) (Add key.0 low.0 high.0 parity.0 esn.0) e esn.2 in
     add_made bytes k.0 l.0 m.0 p.0 n.0 key.0 low.0 high.0 parity.0 esn.0 e fits k.1 l.1 m.1 p.1 n.1 key.1 low.1 high.1 parity.1 esn.1 w.0 w.1
   where
     add_made : (bytes : List ℕ) (k : StreetKey × List ℕ) (l m : ℕ × List ℕ) (q : List ℕ × List ℕ) (n : ℕ × List ℕ) (key : StreetKey) (low high : ℕ) (parity : Parity) (esn : ℕ) (e : Edit)

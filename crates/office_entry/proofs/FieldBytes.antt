@@ -8,7 +8,7 @@ use Rattle.ali_base.specs.Columns.{is_empty}
 use Rattle.ali_base.specs.declared.street_key.StreetKey.{StreetKey}
 use Rattle.office_entry.specs.EditBytes.{number_bytes, key_bytes}
 use Rattle.office_entry.specs.BytesReading.{front, number_at, key_at}
-use Rattle.office_entry.proofs.Options.{bind_ok, bind_some, some_is}
+use Rattle.ali_base.proofs.Steps.{bind_ok, bind_some, some_is}
 
 abbrev pub IsBytes : List ℕ → Type 0
 IsBytes bytes = (i : ℕ) → get_or bytes i 0 < 256

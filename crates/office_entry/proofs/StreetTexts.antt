@@ -10,8 +10,10 @@ use Rattle.ali_base.specs.declared.street_key.StreetKey.{StreetKey}
 use Rattle.office_entry.specs.EditKeys.{is_street_byte, is_edit_key, IsEditKey}
 use Rattle.office_entry.specs.EditText.{is_sent_byte, IsSentText, StreetTexts, AreStreetTexts, key_of, street_text}
 use Rattle.office_entry.specs.EditReading.{field_at, street_at}
-use Rattle.office_entry.proofs.Options.{bind_ok, bind_some, some_is, and_parts}
-use Rattle.office_entry.proofs.Marks.{Clear, field_is, field_again}
+use Rattle.std.proofs.lemmas.Bool.{and_parts}
+use Rattle.ali_base.proofs.Steps.{bind_ok, bind_some, some_is}
+use Rattle.text_line.proofs.Splits.{Clear}
+use Rattle.office_entry.proofs.Marks.{field_is, field_again}
 
 -- the byte may be in a key as read exactly where it may be sent
 upper_byte : (x : ℕ) → is_street_byte (upper x) ≡ is_sent_byte x

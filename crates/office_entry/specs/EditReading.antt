@@ -1,25 +1,16 @@
 -- Reading the text of an edit from its front.
-use Rattle.std.specs.Prelude.{ℕ, ◌+◌, ◌^◌, ◌==◌, ◌&&◌, ◌||◌, Bool, not, nat_le, nat_lt, ℤ, pos, List, [], ◌∷◌, length, take, drop, slice_index, codes, Option, Some, None, if◌then◌else◌}
-use Rattle.std.specs.List.{position}
+use Rattle.std.specs.Prelude.{ℕ, ◌==◌, nat_le, ℤ, pos, List, [], ◌∷◌, length, codes, Option, Some, None, if◌then◌else◌}
 use Rattle.std.specs.Str.{bytes_eq}
 use Rattle.ali_base.specs.Steps.{◌>>=◌, when}
-use Rattle.ali_base.specs.Digits.{digits_number}
 use Rattle.ali_base.specs.Parity.{parity_of}
 use Rattle.ali_base.specs.StreetKey.{street_key}
 use Rattle.ali_base.specs.declared.street_key.StreetKey.{StreetKey}
+use Rattle.text_line.specs.WordReading.{number_of, split_once}
 use Rattle.office_entry.specs.declared.edit.Edit.{Edit}
 use Rattle.office_entry.specs.declared.edit.Edit.TheVariants.{Add, Retire, Split, Renumber, SetEsn}
 use Rattle.office_entry.specs.Differences.{negative}
 use Rattle.office_entry.specs.EditKeys.{edit_key}
 use Rattle.office_entry.specs.Edits.{small_number}
-
--- one to ten bytes, the first no 0 unless it is alone
-abbrev pub is_short : List ℕ → Bool
-is_short bytes = nat_lt 0 (length bytes) && nat_le (length bytes) 10 && (not (slice_index bytes 0 == 48) || (length bytes == 1))
-
--- a number below 2 ^ 32 without a sign or a needless leading zero
-unfoldable pub number_of : List ℕ → Option ℕ
-number_of bytes = if is_short bytes then (digits_number bytes >>= λ n. when (nat_lt n (2 ^ 32)) n) else None
 
 -- a number of at most 999,999
 unfoldable pub small_of : List ℕ → Option ℕ
@@ -30,16 +21,10 @@ unfoldable pub difference_of : List ℕ → Option ℤ
 difference_of [] = None
 difference_of (sign ∷ digits) = small_of digits >>= λ n. if sign == 43 then Some (pos n) else (if sign == 45 then negative n else None)
 
--- the bytes before the first of this mark, and those after it
-unfoldable pub front_at : ℕ → List ℕ → Option (List ℕ × List ℕ)
-front_at mark bytes = do
-  at ← position (λ byte. byte == mark) bytes
-  Some (take at bytes, drop (at + 1) bytes)
-
 -- the bytes before the first `|`, at most so many, and those after it
 unfoldable pub field_at : ℕ → List ℕ → Option (List ℕ × List ℕ)
 field_at width bytes = do
-  field ← front_at 124 bytes
+  field ← split_once 124 bytes
   when (nat_le (length field.0) width) field
 
 -- the key that six texts name, and what is left after the `|` behind them
@@ -57,9 +42,9 @@ street_at bytes = do
 unfoldable pub add_of : List ℕ → Option Edit
 add_of bytes = do
   street ← street_at bytes
-  low ← front_at 124 street.1
-  high ← front_at 124 low.1
-  parity ← front_at 124 high.1
+  low ← split_once 124 street.1
+  high ← split_once 124 low.1
+  parity ← split_once 124 high.1
   key ← edit_key street.0
   l ← small_of low.0
   h ← small_of high.0
@@ -76,8 +61,8 @@ retire_of bytes = do
 -- what follows `SPLIT`
 unfoldable pub split_of : List ℕ → Option Edit
 split_of bytes = do
-  id ← front_at 32 bytes
-  at ← front_at 32 id.1
+  id ← split_once 32 bytes
+  at ← split_once 32 id.1
   i ← number_of id.0
   a ← small_of at.0
   esn ← small_of at.1
@@ -86,7 +71,7 @@ split_of bytes = do
 -- what follows `RENUMBER`
 unfoldable pub renumber_of : List ℕ → Option Edit
 renumber_of bytes = do
-  id ← front_at 32 bytes
+  id ← split_once 32 bytes
   i ← number_of id.0
   by ← difference_of id.1
   Some (Renumber i by)
@@ -94,7 +79,7 @@ renumber_of bytes = do
 -- what follows `SETESN`
 unfoldable pub set_esn_of : List ℕ → Option Edit
 set_esn_of bytes = do
-  id ← front_at 32 bytes
+  id ← split_once 32 bytes
   i ← number_of id.0
   esn ← small_of id.1
   Some (SetEsn i esn)
@@ -111,5 +96,5 @@ by_word word rest =
 -- the edit of a text
 unfoldable pub edit_of : List ℕ → Option Edit
 edit_of bytes = do
-  word ← front_at 32 bytes
+  word ← split_once 32 bytes
   by_word word.0 word.1

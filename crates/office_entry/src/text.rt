@@ -1,29 +1,13 @@
 //! Reading the text of an edit.
-ghost use Rattle.std.specs.Prelude.{◌≡◌, ◌≤◌, ◌<◌, ◌==◌, length, option_map, IfSome};
-ghost use Rattle.std.specs.List.{position};
-ghost use Rattle.office_entry.specs.EditReading.{number_of, small_of, difference_of, front_at, field_at, street_at, add_of, retire_of, split_of, renumber_of, set_esn_of, edit_of};
+ghost use Rattle.std.specs.Prelude.{◌≡◌, ◌≤◌, length, option_map, IfSome};
+ghost use Rattle.office_entry.specs.EditReading.{small_of, difference_of, field_at, street_at, add_of, retire_of, split_of, renumber_of, set_esn_of, edit_of};
 
 use crate::difference::Difference;
 use crate::edit::Edit;
 use crate::edit_key::EditKey;
 use crate::esn_sent::EsnSent;
-use ali_base::{House, Parity, StreetKey, digits_number};
-
-// A number below 2^32, without a sign or a needless leading zero.
-#[tactic(auto, unfolding(crate::specs::EditReading::number_of))]
-fn number_of(bytes: &[u8]) -> Option<u32>
-    ensures { result ≡ number_of bytes.now }
-{
-    if bytes.is_empty() || bytes.len() > 10 || (bytes[0] == b'0' && bytes.len() != 1) {
-        return None;
-    }
-    let value = digits_number(bytes)?;
-    if value < 1 << 32 {
-        Some(value as u32)
-    } else {
-        None
-    }
-}
+use ali_base::{House, Parity, StreetKey};
+use text_line::{number_of, split_once};
 
 // A house number.
 #[tactic(auto, unfolding(crate::specs::EditReading::small_of))]
@@ -53,30 +37,13 @@ fn difference_of(bytes: &[u8]) -> Option<Difference>
     }
 }
 
-// The bytes before the first of this mark, and those after it.
-#[tactic(auto, unfolding(crate::specs::EditReading::front_at))]
-fn front_at(mark: u8, bytes: &[u8]) -> Option<(&[u8], &[u8])>
-    ensures { option_map (λ x. (x.0.now, x.1.now)) result ≡ front_at mark bytes.now }
-{
-    let at = place_of(bytes, mark)?;
-    Some((&bytes[..at], &bytes[at + 1..]))
-}
-
-// The place of the first byte that is this one.
-fn place_of(bytes: &[u8], byte: u8) -> Option<usize>
-    ensures place { result ≡ position (λ b. b == byte) bytes.now }
-    ensures inside { IfSome result (λ at. at < length bytes.now) }
-{
-    bytes.iter().position(|b| *b == byte)
-}
-
 // The bytes before the first `|`, at most so many, and those after it.
 #[tactic(auto, unfolding(crate::specs::EditReading::field_at))]
 fn field_at(width: usize, bytes: &[u8]) -> Option<(&[u8], &[u8])>
     ensures field { option_map (λ x. (x.0.now, x.1.now)) result ≡ field_at width bytes.now }
     ensures fits { IfSome result (λ x. length x.0.now ≤ width) }
 {
-    let (field, rest) = front_at(b'|', bytes)?;
+    let (field, rest) = split_once(bytes, b'|')?;
     if field.len() <= width {
         Some((field, rest))
     } else {
@@ -105,9 +72,9 @@ fn add_of(bytes: &[u8]) -> Option<Edit>
     ensures { result ≡ add_of bytes.now }
 {
     let (key, rest) = street_at(bytes)?;
-    let (low, rest) = front_at(b'|', rest)?;
-    let (high, rest) = front_at(b'|', rest)?;
-    let (parity, esn) = front_at(b'|', rest)?;
+    let (low, rest) = split_once(rest, b'|')?;
+    let (high, rest) = split_once(rest, b'|')?;
+    let (parity, esn) = split_once(rest, b'|')?;
     let key = EditKey::new(key)?;
     let low = house_of(low)?;
     let high = house_of(high)?;
@@ -136,8 +103,8 @@ fn retire_of(bytes: &[u8]) -> Option<Edit>
 fn split_of(bytes: &[u8]) -> Option<Edit>
     ensures { result ≡ split_of bytes.now }
 {
-    let (id, rest) = front_at(b' ', bytes)?;
-    let (at, esn) = front_at(b' ', rest)?;
+    let (id, rest) = split_once(bytes, b' ')?;
+    let (at, esn) = split_once(rest, b' ')?;
     let id = number_of(id)?;
     let at = house_of(at)?;
     let esn = esn_of(esn)?;
@@ -149,7 +116,7 @@ fn split_of(bytes: &[u8]) -> Option<Edit>
 fn renumber_of(bytes: &[u8]) -> Option<Edit>
     ensures { result ≡ renumber_of bytes.now }
 {
-    let (id, by) = front_at(b' ', bytes)?;
+    let (id, by) = split_once(bytes, b' ')?;
     let id = number_of(id)?;
     let by = difference_of(by)?;
     Some(Edit::Renumber { id, by })
@@ -160,7 +127,7 @@ fn renumber_of(bytes: &[u8]) -> Option<Edit>
 fn set_esn_of(bytes: &[u8]) -> Option<Edit>
     ensures { result ≡ set_esn_of bytes.now }
 {
-    let (id, esn) = front_at(b' ', bytes)?;
+    let (id, esn) = split_once(bytes, b' ')?;
     let id = number_of(id)?;
     let esn = esn_of(esn)?;
     Some(Edit::SetEsn { id, esn })
@@ -171,7 +138,7 @@ fn set_esn_of(bytes: &[u8]) -> Option<Edit>
 pub(crate) fn edit_of(bytes: &[u8]) -> Option<Edit>
     ensures { result ≡ edit_of bytes.now }
 {
-    let (word, rest) = front_at(b' ', bytes)?;
+    let (word, rest) = split_once(bytes, b' ')?;
     if word == b"ADD".as_slice() {
         add_of(rest)
     } else if word == b"RETIRE".as_slice() {

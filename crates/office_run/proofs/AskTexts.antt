@@ -1,52 +1,27 @@
 -- Requests and their text.
-use Rattle.std.proofs.Common.{◌≡◌, ℕ, ◌^◌, ◌<◌, Bool, true, false, cond, ◌&&◌, ◌==◌, nat_le, List, [], ◌∷◌, ◌++◌, length, refl, ap, sym, ◌∙◌, subst, arith, Option, Some, None, option_and_then, codes}
+use Rattle.std.proofs.Common.{◌≡◌, ℕ, true, false, cond, ◌&&◌, ◌==◌, nat_le, List, [], ◌∷◌, ◌++◌, length, refl, ap, sym, ◌∙◌, subst, arith, Some, None, codes}
 use Rattle.std.specs.Fmt.{decimal}
 use Rattle.std.specs.Char.{is_ascii_digit}
 use Rattle.std.specs.List.{list_all, AllByRecursion}
-use Rattle.std.specs.Str.{all_ascii_digits, bytes_eq}
-use Rattle.std.proofs.lemmas.Fmt.{digits_decimal}
+use Rattle.std.specs.Str.{bytes_eq}
+use Rattle.std.proofs.lemmas.Bool.{and_parts}
 use Rattle.std.proofs.lemmas.Bool.Decides.{nat_tests}
+use Rattle.std.proofs.lemmas.Option.{cond_some}
 use Rattle.std.proofs.lemmas.Slice.Eq.{bytes_eq-Decides}
 use Rattle.std.proofs.lemmas.List.Elements.{recursion_from_All, All-from_recursion}
-use Rattle.ali_base.specs.Steps.{when}
-use Rattle.ali_base.specs.Columns.{is_space}
 use Rattle.ali_base.specs.TelephoneNumber.{tn_of, IsTn, IsDigit}
 use Rattle.office_run.specs.ScriptGrammar.{Command, Ask, ask_text, IsAsk}
-use Rattle.office_run.specs.ScriptReading.{ask_of, word_at, number_of, is_line_end}
-use Rattle.office_run.proofs.NumberTexts.{own, number_of-decimal, decimal-number_of}
-use Rattle.office_run.proofs.SpacedWords.{Clear, word_at-word, word-word_at}
+use Rattle.ali_base.proofs.Steps.{bind_ok}
+use Rattle.text_line.specs.WordReading.{number_of, split_once}
+use Rattle.text_line.proofs.NumberTexts.{number_of-decimal, decimal-number_of}
+use Rattle.text_line.proofs.Splits.{Clear, split_again, split_is, listed_clear, decimal_clear}
+use Rattle.office_run.specs.ScriptReading.{ask_of}
 
-and_parts : (a b : Bool) → (a && b) ≡ true → (a ≡ true) × (b ≡ true)
-and_parts true b h = (refl, h)
-and_parts false b h = cc
-
--- a test that no digit passes
-pub digits_clear : (p : ℕ → Bool) → ((x : ℕ) → is_ascii_digit x ≡ true → p x ≡ false) → (xs : List ℕ) → all_ascii_digits xs ≡ true → Clear p xs
-digits_clear p none [] h = tt
-digits_clear p none (x ∷ xs) h = let d = and_parts (is_ascii_digit x) (all_ascii_digits xs) h in (none x d.0, digits_clear p none xs d.1)
-
-pub listed_clear : (p : ℕ → Bool) → ((x : ℕ) → is_ascii_digit x ≡ true → p x ≡ false) → (xs : List ℕ) → list_all is_ascii_digit xs ≡ true → Clear p xs
-listed_clear p none [] h = tt
-listed_clear p none (x ∷ xs) h = let d = and_parts (is_ascii_digit x) (list_all is_ascii_digit xs) h in (none x d.0, listed_clear p none xs d.1)
-
-pub no_space : (x : ℕ) → is_ascii_digit x ≡ true → is_space x ≡ false
-no_space x h = grind (arith, nat_tests)
-
-pub no_line_end : (x : ℕ) → is_ascii_digit x ≡ true → is_line_end x ≡ false
-no_line_end x h = grind (arith, nat_tests)
-
-pub decimal_clear : (p : ℕ → Bool) → ((x : ℕ) → is_ascii_digit x ≡ true → p x ≡ false) → (n : ℕ) → n < 2 ^ 32 → Clear p (decimal n)
-decimal_clear p none n small = digits_clear p none (decimal n) (digits_decimal own n (omega arith))
-
-when_is : {A : Type 0} (b : Bool) (x y : A) → when b x ≡ Some y → (b ≡ true) × (◌≡◌ {A = Option A} (Some x) (Some y))
-when_is true x y h = (refl, h)
-when_is false x y h = cc
-
-pub tn_clear : (p : ℕ → Bool) → ((x : ℕ) → is_ascii_digit x ≡ true → p x ≡ false) → (tn : List ℕ) → tn_of tn ≡ Some tn → Clear p tn
+pub tn_clear : (mark : ℕ) → is_ascii_digit mark ≡ false → (tn : List ℕ) → tn_of tn ≡ Some tn → Clear mark tn
 unfolding tn_of
-tn_clear p none tn h =
-    let test = when_is ((length tn == 10) && list_all is_ascii_digit tn) tn tn h in
-    listed_clear p none tn (and_parts (length tn == 10) (list_all is_ascii_digit tn) test.0).1
+tn_clear mark none tn h =
+    let test = cond_some ((length tn == 10) && list_all is_ascii_digit tn) tn tn h in
+    listed_clear mark none tn (and_parts (length tn == 10) (list_all is_ascii_digit tn) test.0).1
 
 IsDigit-is : (x : ℕ) → IsDigit x → is_ascii_digit x ≡ true
 IsDigit-is x h = grind (arith, nat_tests)
@@ -75,7 +50,7 @@ tn_of-number tn h =
 pub number-tn_of : (tn : List ℕ) → tn_of tn ≡ Some tn → IsTn tn
 unfolding tn_of
 number-tn_of tn h =
-    let parts = and_parts (length tn == 10) (list_all is_ascii_digit tn) (when_is ((length tn == 10) && list_all is_ascii_digit tn) tn tn h).0 in
+    let parts = and_parts (length tn == 10) (list_all is_ascii_digit tn) (cond_some ((length tn == 10) && list_all is_ascii_digit tn) tn tn h).0 in
     let len : (length tn == 10) ≡ true = parts.0 in
     let ten : length tn ≡ 10 = grind (arith, nat_tests) in
     (ten, All-from_recursion IsDigit tn (listed_digits tn parts.1))
@@ -87,10 +62,10 @@ ask_of-text p tn since h =
     let low : nat_le 1 p ≡ true = grind (arith, nat_tests, h.low) in
     let high : nat_le p 64 ≡ true = grind (arith, nat_tests, h.high) in
     rw (
-      word_at-word (codes "ASK") (codes "a" ++ 32 ∷ (decimal p ++ 32 ∷ (tn ++ 32 ∷ decimal since))) (refl, (refl, (refl, tt))),
-      word_at-word (codes "a") (decimal p ++ 32 ∷ (tn ++ 32 ∷ decimal since)) (refl, tt),
-      word_at-word (decimal p) (tn ++ 32 ∷ decimal since) (decimal_clear is_space no_space p (omega (arith, h.high))),
-      word_at-word tn (decimal since) (tn_clear is_space no_space tn ten),
+      split_again 32 (codes "ASK") (codes "a" ++ 32 ∷ (decimal p ++ 32 ∷ (tn ++ 32 ∷ decimal since))) (refl, (refl, (refl, tt))),
+      split_again 32 (codes "a") (decimal p ++ 32 ∷ (tn ++ 32 ∷ decimal since)) (refl, tt),
+      split_again 32 (decimal p) (tn ++ 32 ∷ decimal since) (decimal_clear 32 refl p (omega (arith, h.high))),
+      split_again 32 tn (decimal since) (tn_clear 32 refl tn ten),
       number_of-decimal p (omega (arith, h.high)),
       ten,
       number_of-decimal since h.small,
@@ -98,18 +73,11 @@ ask_of-text p tn since h =
       high,
     ) refl
 
-pub bind_ok : {A B : Type 0} (o : Option A) (f : A → Option B) (y : B) → option_and_then f o ≡ Some y → (x : A) × (o ≡ Some x) × (f x ≡ Some y)
-bind_ok (Some x) f y h = (x, refl, h)
-bind_ok None f y h = cc
-
-pub some_is : {A : Type 0} (x y : A) → ◌≡◌ {A = Option A} (Some x) (Some y) → x ≡ y
-some_is x y h = cc
-
 tn_is : (bytes tn : List ℕ) → tn_of bytes ≡ Some tn → (bytes ≡ tn) × (tn_of tn ≡ Some tn)
 unfolding tn_of
 tn_is bytes tn h =
-    let test = when_is ((length bytes == 10) && list_all is_ascii_digit bytes) bytes tn h in
-    let same : bytes ≡ tn = cc in
+    let test = cond_some ((length bytes == 10) && list_all is_ascii_digit bytes) bytes tn h in
+    let same : bytes ≡ tn = test.1 in
     (same, subst (λ (z : List ℕ). tn_of z ≡ Some tn) same h)
 
 is_bytes : (xs ys : List ℕ) → bytes_eq xs ys ≡ true → xs ≡ ys
@@ -118,14 +86,14 @@ is_bytes xs ys h = (bytes_eq-Decides xs ys).0 h
 pub ask-ask_of : (line : List ℕ) (c : Command) → ask_of line ≡ Some c → (p : ℕ) × (tn : List ℕ) × (since : ℕ) × IsAsk p tn since × (c ≡ Ask p tn since) × (line ≡ ask_text p tn since)
 unfolding ask_of
 ask-ask_of line c h =
-    let a = bind_ok (word_at line) _ c h in
-    let b = bind_ok (word_at a.0.1) _ c a.2 in
-    let d = bind_ok (word_at b.0.1) _ c b.2 in
-    let e = bind_ok (word_at d.0.1) _ c d.2 in
+    let a = bind_ok (split_once 32 line) _ c h in
+    let b = bind_ok (split_once 32 a.0.1) _ c a.2 in
+    let d = bind_ok (split_once 32 b.0.1) _ c b.2 in
+    let e = bind_ok (split_once 32 d.0.1) _ c d.2 in
     let n = bind_ok (number_of d.0.0) _ c e.2 in
     let t = bind_ok (tn_of e.0.0) _ c n.2 in
     let s = bind_ok (number_of e.0.1) _ c t.2 in
-    let w = when_is (bytes_eq a.0.0 (codes "ASK") && bytes_eq b.0.0 (codes "a") && nat_le 1 n.0 && nat_le n.0 64) (Ask n.0 t.0 s.0) c s.2 in
+    let w = cond_some (bytes_eq a.0.0 (codes "ASK") && bytes_eq b.0.0 (codes "a") && nat_le 1 n.0 && nat_le n.0 64) (Ask n.0 t.0 s.0) c s.2 in
     let high = and_parts (bytes_eq a.0.0 (codes "ASK") && bytes_eq b.0.0 (codes "a") && nat_le 1 n.0) (nat_le n.0 64) w.0 in
     let low = and_parts (bytes_eq a.0.0 (codes "ASK") && bytes_eq b.0.0 (codes "a")) (nat_le 1 n.0) high.0 in
     let words = and_parts (bytes_eq a.0.0 (codes "ASK")) (bytes_eq b.0.0 (codes "a")) low.0 in
@@ -133,13 +101,13 @@ ask-ask_of line c h =
     let tn = tn_is e.0.0 t.0 t.1 in
     let since = decimal-number_of e.0.1 s.0 s.1 in
     let last : e.0.0 ++ 32 ∷ e.0.1 ≡ t.0 ++ 32 ∷ decimal s.0 = ap (λ z. z ++ 32 ∷ e.0.1) tn.0 ∙ ap (λ z. t.0 ++ 32 ∷ z) since.0 in
-    let third : d.0.0 ++ 32 ∷ d.0.1 ≡ decimal n.0 ++ 32 ∷ (t.0 ++ 32 ∷ decimal s.0) = ap (λ z. z ++ 32 ∷ d.0.1) p.0 ∙ ap (λ z. decimal n.0 ++ 32 ∷ z) (word-word_at d.0.1 e.0 e.1 ∙ last) in
-    let second : b.0.0 ++ 32 ∷ b.0.1 ≡ codes "a" ++ 32 ∷ (decimal n.0 ++ 32 ∷ (t.0 ++ 32 ∷ decimal s.0)) = ap (λ z. z ++ 32 ∷ b.0.1) (is_bytes b.0.0 (codes "a") words.1) ∙ ap (λ z. codes "a" ++ 32 ∷ z) (word-word_at b.0.1 d.0 d.1 ∙ third) in
-    let first : a.0.0 ++ 32 ∷ a.0.1 ≡ ask_text n.0 t.0 s.0 = ap (λ z. z ++ 32 ∷ a.0.1) (is_bytes a.0.0 (codes "ASK") words.0) ∙ ap (λ z. codes "ASK" ++ 32 ∷ z) (word-word_at a.0.1 b.0 b.1 ∙ second) in (
+    let third : d.0.0 ++ 32 ∷ d.0.1 ≡ decimal n.0 ++ 32 ∷ (t.0 ++ 32 ∷ decimal s.0) = ap (λ z. z ++ 32 ∷ d.0.1) p.0 ∙ ap (λ z. decimal n.0 ++ 32 ∷ z) (split_is 32 d.0.1 e.0 e.1 ∙ last) in
+    let second : b.0.0 ++ 32 ∷ b.0.1 ≡ codes "a" ++ 32 ∷ (decimal n.0 ++ 32 ∷ (t.0 ++ 32 ∷ decimal s.0)) = ap (λ z. z ++ 32 ∷ b.0.1) (is_bytes b.0.0 (codes "a") words.1) ∙ ap (λ z. codes "a" ++ 32 ∷ z) (split_is 32 b.0.1 d.0 d.1 ∙ third) in
+    let first : a.0.0 ++ 32 ∷ a.0.1 ≡ ask_text n.0 t.0 s.0 = ap (λ z. z ++ 32 ∷ a.0.1) (is_bytes a.0.0 (codes "ASK") words.0) ∙ ap (λ z. codes "ASK" ++ 32 ∷ z) (split_is 32 a.0.1 b.0 b.1 ∙ second) in (
       n.0,
       t.0,
       s.0,
       record { low = grind (arith, nat_tests, low.1); high = grind (arith, nat_tests, high.1); number = number-tn_of t.0 tn.1; small = since.1 },
-      sym (some_is (Ask n.0 t.0 s.0) c w.1),
-      word-word_at line a.0 a.1 ∙ first,
+      sym w.1,
+      split_is 32 line a.0 a.1 ∙ first,
     )

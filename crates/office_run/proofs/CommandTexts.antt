@@ -9,31 +9,32 @@ use Rattle.ali_base.specs.Editors.{IsEditor, IsSerial}
 use Rattle.office_entry.specs.declared.edit.Edit.{Edit as GuideEdit}
 use Rattle.office_entry.specs.EditText.{IsEditText}
 use Rattle.office_run.specs.ScriptGrammar.{Command, Ask, File, Edit, Next, Batch, ask_text, file_text, edit_text, file_limit, IsAsk, IsCommand, BeginsLine, Spelled, BeginsWith}
-use Rattle.office_run.specs.ScriptReading.{ask_of, line_at, ask_or_edit, file_length_of, file_or_other, command_of_line, command_at, is_line_end}
-use Rattle.office_run.proofs.SpacedWords.{Clear, Clear-append}
-use Rattle.office_run.proofs.AskTexts.{ask_of-text, ask-ask_of, bind_ok, some_is, decimal_clear, tn_clear, tn_of-number, no_line_end}
+use Rattle.office_run.specs.ScriptReading.{ask_of, line_at, ask_or_edit, file_length_of, file_or_other, command_of_line, command_at}
+use Rattle.ali_base.proofs.Steps.{bind_ok, some_is}
+use Rattle.text_line.proofs.Splits.{Clear, Clear-append, decimal_clear}
+use Rattle.office_run.proofs.AskTexts.{ask_of-text, ask-ask_of, tn_clear, tn_of-number}
 use Rattle.office_run.proofs.EditTexts.{text_clear, edit_of_line-text, file_length_of-edit, ask_of-edit, text-edit_of_line}
 use Rattle.office_run.proofs.FileTexts.{file_length_of-text, file_length_of-ask, text-file_length_of, content_at-begins, begins-content_at}
 use Rattle.office_run.proofs.LineTexts.{line_at-begins, begins-line_at}
 
-ask_clear : (p : ℕ) (tn : List ℕ) (since : ℕ) → IsAsk p tn since → Clear is_line_end (ask_text p tn since)
+ask_clear : (p : ℕ) (tn : List ℕ) (since : ℕ) → IsAsk p tn since → Clear 10 (ask_text p tn since)
 ask_clear p tn since h =
-    let number = decimal_clear is_line_end no_line_end since h.small in
-    let last = Clear-append is_line_end tn (32 ∷ decimal since) (tn_clear is_line_end no_line_end tn (tn_of-number tn h.number)) (refl, number) in
-    let words = Clear-append is_line_end (decimal p) (32 ∷ (tn ++ 32 ∷ decimal since)) (decimal_clear is_line_end no_line_end p (omega (arith, h.high))) (refl, last) in
+    let number = decimal_clear 10 refl since h.small in
+    let last = Clear-append 10 tn (32 ∷ decimal since) (tn_clear 10 refl tn (tn_of-number tn h.number)) (refl, number) in
+    let words = Clear-append 10 (decimal p) (32 ∷ (tn ++ 32 ∷ decimal since)) (decimal_clear 10 refl p (omega (arith, h.high))) (refl, last) in
     (refl, (refl, (refl, (refl, (refl, (refl, words))))))
 
-file_clear : (len : ℕ) → len ≤ file_limit → Clear is_line_end (file_text len)
-file_clear len small = (refl, (refl, (refl, (refl, (refl, decimal_clear is_line_end no_line_end len (omega arith))))))
+file_clear : (len : ℕ) → len ≤ file_limit → Clear 10 (file_text len)
+file_clear len small = (refl, (refl, (refl, (refl, (refl, decimal_clear 10 refl len (omega arith))))))
 
-edit_clear : (editor serial : ℕ) (edit : GuideEdit) (text : List ℕ) → IsEditor editor → IsSerial serial → IsEditText text edit → Clear is_line_end (edit_text editor serial text)
+edit_clear : (editor serial : ℕ) (edit : GuideEdit) (text : List ℕ) → IsEditor editor → IsSerial serial → IsEditText text edit → Clear 10 (edit_text editor serial text)
 edit_clear editor serial edit text e s h =
-    let last = Clear-append is_line_end (decimal serial) (32 ∷ text) (decimal_clear is_line_end no_line_end serial (omega (arith, s.1))) (refl, text_clear text edit h) in
-    let words = Clear-append is_line_end (decimal editor) (32 ∷ (decimal serial ++ 32 ∷ text)) (decimal_clear is_line_end no_line_end editor (omega (arith, e.1))) (refl, last) in
+    let last = Clear-append 10 (decimal serial) (32 ∷ text) (decimal_clear 10 refl serial (omega (arith, s.1))) (refl, text_clear text edit h) in
+    let words = Clear-append 10 (decimal editor) (32 ∷ (decimal serial ++ 32 ∷ text)) (decimal_clear 10 refl editor (omega (arith, e.1))) (refl, last) in
     (refl, (refl, (refl, (refl, (refl, words)))))
 
 -- a first line is read as its command
-command_at-line : (bytes line rest : List ℕ) → Clear is_line_end line → BeginsLine bytes line rest → command_at bytes ≡ command_of_line (line, rest)
+command_at-line : (bytes line rest : List ℕ) → Clear 10 line → BeginsLine bytes line rest → command_at bytes ≡ command_of_line (line, rest)
 unfolding command_at
 command_at-line bytes line rest clear h = ap command_of_line (line_at-begins bytes line rest clear h)
 

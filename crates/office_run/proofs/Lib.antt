@@ -3,9 +3,7 @@ pub mod CommandTexts
 pub mod FileTexts
 pub mod EditTexts
 pub mod LineTexts
-pub mod NumberTexts
 pub mod Scripts
-pub mod SpacedWords
 pub mod Results
 pub mod Taking
 pub mod Completeness

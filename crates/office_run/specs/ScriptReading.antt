@@ -1,35 +1,19 @@
 -- Reading a script from its front.
-use Rattle.std.specs.Prelude.{ℕ, ◌+◌, ◌^◌, ◌==◌, ◌&&◌, ◌||◌, Bool, not, nat_le, nat_lt, List, [], ◌∷◌, length, take, drop, slice_index, codes, Option, Some, None, if◌then◌else◌}
-use Rattle.std.specs.List.{position}
+use Rattle.std.specs.Prelude.{ℕ, ◌==◌, ◌&&◌, nat_le, nat_lt, List, [], ◌∷◌, length, take, drop, codes, Option, Some, None, unwrap_or, if◌then◌else◌}
 use Rattle.std.specs.Str.{bytes_eq}
 use Rattle.ali_base.specs.Steps.{◌>>=◌, when}
-use Rattle.ali_base.specs.Columns.{is_space}
-use Rattle.ali_base.specs.Digits.{digits_number}
 use Rattle.ali_base.specs.TelephoneNumber.{tn_of}
+use Rattle.text_line.specs.WordReading.{number_of, split_once}
 use Rattle.office_entry.specs.EditReading.{edit_of}
 use Rattle.office_run.specs.ScriptGrammar.{Command, Ask, File, Edit, Next, Batch, file_limit}
-
--- one to ten bytes, the first no 0 unless it is alone
-abbrev pub is_short : List ℕ → Bool
-is_short bytes = nat_lt 0 (length bytes) && nat_le (length bytes) 10 && (not (slice_index bytes 0 == 48) || (length bytes == 1))
-
--- a number below 2 ^ 32 without a sign or a needless leading zero
-unfoldable pub number_of : List ℕ → Option ℕ
-number_of bytes = if is_short bytes then (digits_number bytes >>= λ n. when (nat_lt n (2 ^ 32)) n) else None
-
--- the bytes before the first space, and those after it
-unfoldable pub word_at : List ℕ → Option (List ℕ × List ℕ)
-word_at bytes = do
-  at ← position is_space bytes
-  Some (take at bytes, drop (at + 1) bytes)
 
 -- `ASK a position tn since`, without the end of its line
 unfoldable pub ask_of : List ℕ → Option Command
 ask_of bytes = do
-  word ← word_at bytes
-  node ← word_at word.1
-  position ← word_at node.1
-  number ← word_at position.1
+  word ← split_once 32 bytes
+  node ← split_once 32 word.1
+  position ← split_once 32 node.1
+  number ← split_once 32 position.1
   p ← number_of position.0
   tn ← tn_of number.0
   since ← number_of number.1
@@ -38,9 +22,9 @@ ask_of bytes = do
 -- `EDIT editor serial edit`, without the end of its line
 unfoldable pub edit_of_line : List ℕ → Option Command
 edit_of_line bytes = do
-  word ← word_at bytes
-  editor ← word_at word.1
-  serial ← word_at editor.1
+  word ← split_once 32 bytes
+  editor ← split_once 32 word.1
+  serial ← split_once 32 editor.1
   e ← number_of editor.0
   s ← number_of serial.0
   edit ← edit_of serial.1
@@ -51,27 +35,19 @@ abbrev pub ask_or_edit : Option Command → List ℕ → Option Command
 ask_or_edit (Some ask) line = Some ask
 ask_or_edit None line = edit_of_line line
 
-abbrev pub is_line_end : ℕ → Bool
-is_line_end byte = byte == 10
-
--- what stands before a place and after it, or all where there is none
-abbrev pub cut_at : Option ℕ → List ℕ → List ℕ × List ℕ
-cut_at None bytes = (bytes, [])
-cut_at (Some at) bytes = (take at bytes, drop (at + 1) bytes)
-
--- the first line, and what is left after its end
+-- the first line, and what is left after its end; without an end all is the line
 unfoldable pub line_at : List ℕ → List ℕ × List ℕ
-line_at bytes = cut_at (position is_line_end bytes) bytes
+line_at bytes = unwrap_or (split_once 10 bytes) (bytes, [])
 
 -- a file's bytes and what follows: the end of a line, or nothing
 abbrev pub ended : List ℕ → List ℕ → Option (Command × List ℕ)
 ended content [] = Some (File content, [])
-ended content (byte ∷ rest) = when (is_line_end byte) (File content, rest)
+ended content (byte ∷ rest) = when (byte == 10) (File content, rest)
 
 -- the length of `FILE length`
 unfoldable pub file_length_of : List ℕ → Option ℕ
 file_length_of line = do
-  word ← word_at line
+  word ← split_once 32 line
   len ← number_of word.1
   when (bytes_eq word.0 (codes "FILE") && nat_le len file_limit) len
 

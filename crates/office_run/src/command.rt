@@ -1,12 +1,13 @@
 //! Reading commands.
-ghost use Rattle.std.specs.Prelude.{◌≡◌, ◌+◌, ◌<◌, ◌≤◌, ◌==◌, length, Option, Some, option_map, IfSome};
+ghost use Rattle.std.specs.Prelude.{◌≡◌, ◌<◌, ◌≤◌, length, option_map, IfSome};
 ghost use Rattle.std.specs.List.{position};
 ghost use Rattle.office_run.specs.ScriptGrammar as script;
-ghost use Rattle.office_run.specs.ScriptReading.{number_of, word_at, ask_of, edit_of_line, ask_or_edit, file_length_of, content_at, file_or_other, command_at, line_at};
+ghost use Rattle.office_run.specs.ScriptReading.{ask_of, edit_of_line, ask_or_edit, file_length_of, content_at, file_or_other, command_at, line_at};
 ghost use Rattle.office_run.specs.ParsedCommand.{command_of};
 
-use ali_base::{Editor, Serial, Tn, digits_number};
+use ali_base::{Editor, Serial, Tn};
 use office_entry::Edit;
+use text_line::{number_of, split_once};
 
 /// The most bytes of a carrier's file.
 pub const FILE_LIMIT: u32 = 16_777_216;
@@ -90,32 +91,6 @@ fn ask_or_edit<'a>(line: &[u8]) -> Option<Command<'a>>
     }
 }
 
-// A number below 2^32, without a sign or a needless leading zero.
-#[tactic(auto, unfolding(crate::specs::ScriptReading::number_of))]
-fn number_of(bytes: &[u8]) -> Option<u32>
-    ensures { result ≡ number_of bytes.now }
-{
-    if bytes.is_empty() || bytes.len() > 10 || (bytes[0] == b'0' && bytes.len() != 1) {
-        return None;
-    }
-    let value = digits_number(bytes)?;
-    if value < 1 << 32 {
-        Some(value as u32)
-    } else {
-        None
-    }
-}
-
-// The bytes before the first space, and those after it.
-#[tactic(auto, unfolding(crate::specs::ScriptReading::word_at))]
-fn word_at(bytes: &[u8]) -> Option<(&[u8], &[u8])>
-    ensures word { option_map (λ x. (x.0.now, x.1.now)) result ≡ word_at bytes.now }
-    ensures some { IfSome result (λ x. 0 < length bytes.now) }
-{
-    let at = place_of(bytes, b' ')?;
-    Some((&bytes[..at], &bytes[at + 1..]))
-}
-
 // The first line, and what is left after its end.
 #[tactic(auto, unfolding(crate::specs::ScriptReading::line_at))]
 fn line_at(bytes: &[u8]) -> (&[u8], &[u8])
@@ -123,18 +98,10 @@ fn line_at(bytes: &[u8]) -> (&[u8], &[u8])
     ensures shorter { 0 < length result.0.now → length result.1.now < length bytes.now }
     ensures no_longer { length result.1.now ≤ length bytes.now }
 {
-    match place_of(bytes, b'\n') {
-        Some(at) => (&bytes[..at], &bytes[at + 1..]),
+    match split_once(bytes, b'\n') {
+        Some(parts) => parts,
         None => (bytes, &[]),
     }
-}
-
-// The place of the first byte that is this one.
-fn place_of(bytes: &[u8], byte: u8) -> Option<usize>
-    ensures place { result ≡ position (λ b. b == byte) bytes.now }
-    ensures inside { IfSome result (λ at. at < length bytes.now) }
-{
-    bytes.iter().position(|b| *b == byte)
 }
 
 // `ASK a position tn since`
@@ -143,10 +110,10 @@ fn ask_of(line: &[u8]) -> Option<Ask>
     ensures ask { option_map (λ ask. script.Ask ask.position ask.tn ask.since) result ≡ ask_of line.now }
     ensures some { IfSome result (λ ask. 0 < length line.now) }
 {
-    let (word, rest) = word_at(line)?;
-    let (node, rest) = word_at(rest)?;
-    let (position, rest) = word_at(rest)?;
-    let (tn, since) = word_at(rest)?;
+    let (word, rest) = split_once(line, b' ')?;
+    let (node, rest) = split_once(rest, b' ')?;
+    let (position, rest) = split_once(rest, b' ')?;
+    let (tn, since) = split_once(rest, b' ')?;
     let position = number_of(position)?;
     let tn = Tn::read(tn)?;
     let since = number_of(since)?;
@@ -167,9 +134,9 @@ fn edit_of<'a>(line: &[u8]) -> Option<Command<'a>>
     ensures edit { option_map command_of result ≡ edit_of_line line.now }
     ensures some { IfSome result (λ command. 0 < length line.now) }
 {
-    let (word, rest) = word_at(line)?;
-    let (editor, rest) = word_at(rest)?;
-    let (serial, edit) = word_at(rest)?;
+    let (word, rest) = split_once(line, b' ')?;
+    let (editor, rest) = split_once(rest, b' ')?;
+    let (serial, edit) = split_once(rest, b' ')?;
     let editor = number_of(editor)?;
     let serial = number_of(serial)?;
     let edit = Edit::read_text(edit)?;
@@ -189,7 +156,7 @@ fn file_length_of(line: &[u8]) -> Option<u32>
     ensures len { result ≡ file_length_of line.now }
     ensures some { IfSome result (λ len. 0 < length line.now) }
 {
-    let (word, len) = word_at(line)?;
+    let (word, len) = split_once(line, b' ')?;
     let len = number_of(len)?;
     if word == b"FILE".as_slice() && len <= FILE_LIMIT {
         Some(len)

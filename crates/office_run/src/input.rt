@@ -1,5 +1,5 @@
 //! Reading the script.
-ghost use Rattle.std.specs.Prelude.{◌+◌, ◌≤◌, length, IfOk, IfErr};
+ghost use Rattle.std.specs.Prelude.{◌≤◌, length, IfOk, IfErr};
 ghost use Rattle.office_run.specs.ScriptInput.{script_limit, TookAll};
 ghost use Rattle.office_run.specs.InputFaults.{InputStops, TakesPiece, PieceStops};
 

@@ -1,1 +1,2 @@
 pub mod WordLines
+pub mod WordReading

@@ -4,14 +4,11 @@ use Rattle.std.specs.Fmt.{decimal}
 use Rattle.std.specs.Str.{all_ascii_digits}
 use Rattle.std.specs.Str.Parse.{digits_value}
 use Rattle.std.proofs.lemmas.Bool.Decides.{nat_tests}
-use Rattle.std.proofs.lemmas.Str.Parse.{IsNumeralModel, numerals_by_value, tells_all_ascii_digits}
 use Rattle.std.proofs.lemmas.Fmt.{decimal-digits_value, digits_decimal, digits_value-decimal, decimal_nonempty, length-decimal-le, first_decimal, decimal_digit}
 use Rattle.ali_base.specs.Steps.{when}
 use Rattle.ali_base.specs.Digits.{digits_number}
-use Rattle.office_run.specs.ScriptReading.{number_of, is_short}
-
-pub own : IsNumeralModel (λ ds. all_ascii_digits ds ≡ true) (digits_value 10)
-own = numerals_by_value _ tells_all_ascii_digits
+use Rattle.ali_base.proofs.Digits.{own}
+use Rattle.text_line.specs.WordReading.{number_of, is_short}
 
 short_from : (bytes : List ℕ) → 0 < length bytes → length bytes ≤ 10 → (get_or bytes 0 0 ≢ 48) ⊎ (length bytes ≡ 1) → is_short bytes ≡ true
 short_from bytes some ten (inl other) = grind (arith, nat_tests)
@@ -32,6 +29,7 @@ unfolding digits_number
 digits_number-decimal n small =
     ap (λ b. cond b (Some (digits_value 10 (decimal n))) None) (digits_decimal own n (omega arith)) ∙ ap Some (digits_value-decimal own n (omega arith))
 
+-- the text of a number is read as it
 pub number_of-decimal : (n : ℕ) → n < 2 ^ 32 → number_of (decimal n) ≡ Some n
 unfolding number_of
 number_of-decimal n small =
@@ -58,6 +56,7 @@ number_parts true (Some m) n h =
 short_parts : (bytes : List ℕ) → is_short bytes ≡ true → (0 < length bytes) × (get_or bytes 0 0 ≡ 48 → length bytes ≡ 1)
 short_parts bytes h = (grind (arith, nat_tests), λ zero. grind (arith, nat_tests))
 
+-- and what is read as a number is its text
 pub decimal-number_of : (bytes : List ℕ) (n : ℕ) → number_of bytes ≡ Some n → (bytes ≡ decimal n) × (n < 2 ^ 32)
 unfolding number_of
 decimal-number_of bytes n h =
