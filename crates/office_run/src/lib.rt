@@ -21,4 +21,6 @@ pub use run::office;
 pub use status::Status;
 
 #[cfg(test)]
+mod fault_tests;
+#[cfg(test)]
 mod tests;

@@ -1,8 +1,8 @@
-//! Worked scripts, and runs in which the source or the sink fails.
+//! Worked scripts.
 ghost use Rattle.std.specs.Prelude.{◌+◌, ◌≤◌, length};
 
 use crate::{Status, office};
-use ali_base::{MemSink, MemSource, Source, Taken};
+use ali_base::{MemSink, MemSource};
 use std::alloc::Global;
 use std::test::Fail;
 
@@ -42,7 +42,7 @@ fn end(name: &[u8; 3], tail: &[u8; 9]) -> [u8; 512] {
 }
 
 // The header of a cycle, whose number is one digit.
-fn header(cycle: u8) -> [u8; 512] {
+pub(crate) fn header(cycle: u8) -> [u8; 512] {
     let mut header = end(b"UHL", b"0000001  ");
     header[19] = cycle;
     header[20] = b'1';
@@ -50,7 +50,7 @@ fn header(cycle: u8) -> [u8; 512] {
 }
 
 // The trailer that tells this count, which is one digit.
-fn trailer(count: u8) -> [u8; 512] {
+pub(crate) fn trailer(count: u8) -> [u8; 512] {
     let mut trailer = end(b"UTL", b"000000000");
     trailer[22] = count;
     trailer
@@ -66,7 +66,7 @@ EDITED 1 1 0 1
 ";
 
 // Adds 512-byte records one after the other.
-fn add_records(script: &mut Vec<u8>, records: &[[u8; 512]]) -> Result<(), Fail> {
+pub(crate) fn add_records(script: &mut Vec<u8>, records: &[[u8; 512]]) -> Result<(), Fail> {
     for record in records {
         script.extend_from_slice(record)?;
     }
@@ -75,7 +75,11 @@ fn add_records(script: &mut Vec<u8>, records: &[[u8; 512]]) -> Result<(), Fail> 
 
 // Adds the command that reads a file of these records, of which the first is the header and the last
 // the trailer.
-fn add_file(alloc: Global, script: &mut Vec<u8>, records: &[[u8; 512]]) -> Result<(), Fail>
+pub(crate) fn add_file(
+    alloc: Global,
+    script: &mut Vec<u8>,
+    records: &[[u8; 512]],
+) -> Result<(), Fail>
     requires { length records.now ≤ 100 }
 {
     let line = format!(in alloc; "FILE {}\n", records.len() * 512)?;
@@ -87,13 +91,13 @@ fn add_file(alloc: Global, script: &mut Vec<u8>, records: &[[u8; 512]]) -> Resul
 
 // A run that ended, and what it put.
 #[derive(Drop)]
-struct Ended {
-    status: Status,
-    sink: MemSink,
+pub(crate) struct Ended {
+    pub(crate) status: Status,
+    pub(crate) sink: MemSink,
 }
 
 // Runs a script, of which a take gives 300 bytes at most, with calls that fail.
-fn run(
+pub(crate) fn run(
     alloc: Global,
     script: &[u8],
     failing_takes: &[u64],
@@ -636,9 +640,10 @@ fn files_out_of_turn(rt: HostRuntime) -> Result<(), Fail> {
     Ok(())
 }
 
-const THREE: &[u8] = b"ASK a 1 3035550199 0\nASK a 1 3035550199 1\nASK a 1 3035550100 0\n";
+pub(crate) const THREE: &[u8] =
+    b"ASK a 1 3035550199 0\nASK a 1 3035550199 1\nASK a 1 3035550100 0\n";
 
-const REPLIES: &[u8] = b"ANSWER 0 30
+pub(crate) const REPLIES: &[u8] = b"ANSWER 0 30
 TN 3035550199 NO RECORD FOUND
 AHEAD 1 0
 ANSWER 0 30
@@ -699,114 +704,5 @@ fn empty_script_and_other_words(rt: HostRuntime) -> Result<(), Fail> {
         let status = office(rt.alloc(), words, &mut source, &mut sink);
         assert_eq!(rt; status, Status::Usage);
     }
-    Ok(())
-}
-
-// The script of three requests, and a file of no records that is read and booked.
-fn requests_and_file(alloc: Global) -> Result<Vec<u8>, Fail> {
-    let mut script = THREE.to_vec(alloc)?;
-    add_file(alloc, &mut script, &[header(b'1'), trailer(b'0')])?;
-    script.extend_from_slice(b"BATCH\n")?;
-    Ok(script)
-}
-
-// The source fails at its k-th take, for each k up to a run without a failure. Nothing is put where it
-// fails.
-#[test]
-fn failures_at_each_take(rt: HostRuntime) -> Result<(), Fail> {
-    let script = requests_and_file(rt.alloc())?;
-    for k in 1..7 {
-        let ended = run(rt.alloc(), &script, &[k], &[])?;
-        let status = if k < 6 {
-            Status::SourceFault
-        } else {
-            Status::Done
-        };
-        assert_eq!(rt; ended.status, status);
-        assert_eq!(rt; ended.sink.bytes().is_empty(), k < 6);
-    }
-    Ok(())
-}
-
-// The sink fails at its k-th put, for each k up to a run without a failure. What was put is a front of
-// the replies: lines and forms, the line of the file, and of the reply to its job the line, the length,
-// the header, the trailer and the end of the line.
-#[test]
-fn failures_at_each_put(rt: HostRuntime) -> Result<(), Fail> {
-    let script = requests_and_file(rt.alloc())?;
-    let before_each = [
-        (1, 0),
-        (2, 12),
-        (3, 42),
-        (4, 52),
-        (5, 64),
-        (6, 94),
-        (7, 116),
-        (8, 137),
-        (9, 149),
-        (10, 661),
-        (11, 1173),
-        (12, 1174),
-    ];
-    let mut whole = REPLIES.to_vec(rt.alloc())?;
-    whole.extend_from_slice(b"READ FILE ABC01 1 0 0\nCOMPLETE ABC01 1 0 0\nERRORS 1024\n")?;
-    add_records(&mut whole, &[header(b'1'), trailer(b'0')])?;
-    whole.push(b'\n')?;
-    for (k, len) in before_each {
-        let ended = run(rt.alloc(), &script, &[], &[k])?;
-        let status = if len < 1174 {
-            Status::SinkFault
-        } else {
-            Status::Done
-        };
-        assert_eq!(rt; ended.status, status);
-        assert_eq!(rt; ended.sink.bytes().len(), len);
-        assert!(rt; whole.starts_with(ended.sink.bytes()));
-    }
-    Ok(())
-}
-
-// A sink that has no room takes nothing.
-#[test]
-fn sink_takes_nothing(rt: HostRuntime) -> Result<(), Fail> {
-    let mut source = MemSource::new(THREE.to_vec(rt.alloc())?, 300, Vec::new(rt.alloc()));
-    let mut sink = MemSink::new(rt.alloc(), 0, Vec::new(rt.alloc()))?;
-    let status = office(rt.alloc(), &["run", "DIR"], &mut source, &mut sink);
-    assert_eq!(rt; status, Status::SinkFault);
-    assert_eq!(rt; sink.faults(), 1);
-    Ok(())
-}
-
-// Gives line ends without end, and counts them.
-#[derive(Drop)]
-struct Endless {
-    given: u64,
-}
-
-impl Source for Endless {
-    ghost use Rattle.std.specs.Prelude.{None};
-
-    ghost left = { λ s. None };
-
-    ghost faults = { λ s. 0 };
-
-    fn take(&mut self, buf: &mut [u8]) -> Taken {
-        for b in buf.iter_mut() {
-            *b = b'\n';
-        }
-        self.given = self.given.saturating_add(buf.len() as u64);
-        Taken::Took(buf.len())
-    }
-}
-
-// A source without end is stopped one byte past the limit, and nothing is put.
-#[test]
-fn source_without_end(rt: HostRuntime) -> Result<(), Fail> {
-    let mut source = Endless { given: 0 };
-    let mut sink = MemSink::new(rt.alloc(), 100, Vec::new(rt.alloc()))?;
-    let status = office(rt.alloc(), &["run", "DIR"], &mut source, &mut sink);
-    assert_eq!(rt; status, Status::TooLong);
-    assert_eq!(rt; source.given, 67_108_865);
-    assert_eq!(rt; sink.bytes().len(), 0);
     Ok(())
 }
