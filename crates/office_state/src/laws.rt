@@ -39,8 +39,8 @@ pub fn locked_rows_are_their_owners()
         → get (after s (Line company cycle line bytes)).table tn ≡ Some row }
 {}
 
-/// A row gets another owner only by a migrate in that company's file, and only where it was unlocked; it
-/// is locked then.
+/// A line gives a row another owner only where it is a migrate in that company's file and the row was
+/// unlocked; the row is locked then.
 pub fn owners_change_by_migrate()
     ensures { (limits : Limits) (history : List Entry) (tn : List ℕ) (old new : Row) (company : List ℕ) (cycle line : ℕ) (bytes : List ℕ)
         → IsLegal limits history → get (state limits history).table tn ≡ Some old
