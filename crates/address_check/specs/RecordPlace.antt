@@ -2,8 +2,8 @@
 use Rattle.std.specs.Prelude.{ℕ, List, Option, Result}
 use Rattle.std.specs.Option.{option_map}
 use Rattle.ali_base.specs.HouseNumber.{house_of}
-use Rattle.ali_base.specs.Placement.{place}
-use Rattle.ali_base.specs.declared.range.Range.{Range}
+use Rattle.address_check.specs.Placement.{place}
+use Rattle.msag_ranges.specs.declared.range.Range.{Range}
 use Rattle.ali_record.specs.Address.{record_key}
 use Rattle.ali_record.specs.Layout.{field_of}
 use Rattle.ali_record.specs.declared.field.Field.TheVariants.{HouseNumber, Esn}

@@ -2,7 +2,7 @@
 ghost use Rattle.std.specs.Prelude.{◌≡◌};
 ghost use Rattle.std.specs.Str.{bytes_eq};
 ghost use Rattle.std.specs.Fmt.{decimal};
-ghost use Rattle.ali_base.specs.Placement.{esn_agrees, zeros_cut};
+ghost use Rattle.address_check.specs.Placement.{esn_agrees, zeros_cut};
 
 use ali_base::{Esn, front_trimmed, is_blank, trimmed};
 use itoa::Buffer;

@@ -1,7 +1,7 @@
 //! The address check.
 ghost use Rattle.std.specs.Prelude.{◌≡◌, IsSome, Some};
 ghost use Rattle.ali_base.specs.HouseNumber.{house_of};
-ghost use Rattle.ali_base.specs.Placement.{place_in};
+ghost use Rattle.address_check.specs.Placement.{place_in};
 ghost use Rattle.ali_record.specs.Layout.{field_of};
 ghost use Rattle.address_check.specs.RecordPlace.{place_of_record};
 

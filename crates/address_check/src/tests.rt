@@ -1,9 +1,9 @@
 ghost use Rattle.std.specs.Prelude.{◌+◌, ◌≤◌, length};
 
 use super::*;
-use ali_base::{Company, Esn, House};
+use ali_base::{Company, Esn, House, Parity, StreetKey};
 use ali_record::{Record, read_record};
-use msag_ranges::{Guide, GuideFault, Parity, Range, StreetKey, has_sound_ends, overlaps};
+use msag_ranges::{Guide, GuideFault, Range, has_sound_ends, overlaps};
 use std::test::Fail;
 
 // A street of Denver.

@@ -15,6 +15,4 @@ pub mod StdStreams
 pub mod WholePuts
 pub mod Parity
 pub mod StreetKey
-pub mod StreetGuide
-pub mod Placement
 pub mod Editors

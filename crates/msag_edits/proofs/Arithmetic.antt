@@ -2,7 +2,7 @@
 use Rattle.std.proofs.Common.{◌≡◌, ◌≢◌, ℕ, ◌+◌, ◌-◌, ◌<◌, ◌≤◌, ◌%◌, Bool, true, false, cond, ◌&&◌, ℤ, pos, negsuc, refl, subst, arith}
 use Rattle.std.specs.Bool.{Decides}
 use Rattle.std.proofs.lemmas.Bool.Decides.{nat_tests}
-use Rattle.ali_base.specs.StreetGuide.{has_parity}
+use Rattle.msag_ranges.specs.StreetGuide.{has_parity}
 use Rattle.ali_base.specs.declared.parity.Parity.{Parity}
 use Rattle.ali_base.specs.declared.parity.Parity.TheVariants.{Odd, Even, Both}
 use Rattle.number_table.specs.HouseArithmetic.{added, stays_house}

@@ -2,8 +2,8 @@
 use Rattle.std.proofs.Common.{◌≡◌, ℕ, ◌<◌, ◌≤◌, Bool, true, false, ◌&&◌, not, nat_le, ℤ, refl, sym, arith, ◌⊎◌, inl, inr}
 use Rattle.std.specs.Bool.{Decides}
 use Rattle.std.proofs.lemmas.Bool.Decides.{nat_tests}
-use Rattle.ali_base.specs.StreetGuide.{HasSoundEnds, is_held}
-use Rattle.ali_base.specs.declared.range.Range.{Range}
+use Rattle.msag_ranges.specs.StreetGuide.{HasSoundEnds, is_held}
+use Rattle.msag_ranges.specs.declared.range.Range.{Range}
 use Rattle.msag_ranges.proofs.Overlapping.{both, and-true}
 use Rattle.number_table.specs.HouseArithmetic.{added, stays_house}
 use Rattle.msag_edits.specs.HouseArithmetic.{is_odd, is_one_parity}

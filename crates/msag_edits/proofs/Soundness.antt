@@ -6,8 +6,8 @@ use Rattle.std.specs.FinMap.{get, entries, get-entries}
 use Rattle.std.specs.FinMap.Entries as ordered
 use Rattle.std.proofs.lemmas.List.Elements.{Contains-append_left, Contains-push, All-contains}
 use Rattle.std.proofs.lemmas.Bool.Decides.{nat_tests}
-use Rattle.ali_base.specs.StreetGuide.{StreetGuide, IsSoundGuide, new_range, least_overlap, holds, is_held, moved, with_moved, without}
-use Rattle.ali_base.specs.declared.range.Range.{Range}
+use Rattle.msag_ranges.specs.StreetGuide.{StreetGuide, IsSoundGuide, new_range, least_overlap, holds, is_held, moved, with_moved, without}
+use Rattle.msag_ranges.specs.declared.range.Range.{Range}
 use Rattle.number_life.specs.declared.row.Row.{Row}
 use Rattle.number_table.specs.NumberTable.{NumberTable, tn_cmp}
 use Rattle.number_table.specs.HeldRows.{count_held, AreChanged, holds_row, least_held, record_house, esn_row, shifted_row}
@@ -28,7 +28,7 @@ use Rattle.msag_ranges.proofs.Overlapping.{both, and-true}
 use Rattle.number_table.proofs.HeldAddresses.{stays-between, held-parts, held-from, held-address, held-by, same-address}
 use Rattle.msag_edits.proofs.Arithmetic.{choice, not_both, none_between, added-order, added-parity, added-limit}
 use Rattle.ali_record.specs.Address.{record_key}
-use Rattle.ali_base.specs.StreetGuide.{range_of}
+use Rattle.msag_ranges.specs.StreetGuide.{range_of}
 use Rattle.msag_edits.proofs.Ranges.{live, one_of_id, different_ids, one_holder}
 use Rattle.msag_edits.proofs.RowFields.{house-size, house-there, house-key, house-esn, esn-size, esn-there, esn-house, esn-key}
 use Rattle.msag_edits.specs.GuideSoundness.{IsPlaced, ArePlaced, AreSound}

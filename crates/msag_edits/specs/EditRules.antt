@@ -2,9 +2,9 @@
 use Rattle.std.specs.Prelude.{ℕ, ◌+◌, ◌&&◌, ◌||◌, Bool, not, nat_le, ℤ, List, [], ◌∷◌, ◌++◌, length, Option, Some, None, if◌then◌else◌}
 use Rattle.std.specs.Option.{option_map_or, unwrap_or}
 use Rattle.ali_base.specs.Digits.{digits_number}
-use Rattle.ali_base.specs.StreetGuide.{StreetGuide, has_parity, least_overlap, range_of, new_range, moved, with_moved, without}
+use Rattle.msag_ranges.specs.StreetGuide.{StreetGuide, has_parity, least_overlap, range_of, new_range, moved, with_moved, without}
 use Rattle.ali_base.specs.declared.parity.Parity.{Parity}
-use Rattle.ali_base.specs.declared.range.Range.{Range}
+use Rattle.msag_ranges.specs.declared.range.Range.{Range}
 use Rattle.ali_base.specs.declared.street_key.StreetKey.{StreetKey}
 use Rattle.msag_edits.specs.declared.edit_verdict.EditVerdict.{EditVerdict}
 use Rattle.number_table.specs.HouseArithmetic.{added, stays_house}

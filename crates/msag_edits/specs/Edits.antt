@@ -2,7 +2,7 @@
 use Rattle.std.specs.Prelude.{◌≡◌, Bool, true, false}
 use Rattle.office_entry.specs.declared.edit.Edit.{Edit}
 use Rattle.office_entry.specs.declared.edit.Edit.TheVariants.{Add, Retire, Split, Renumber, SetEsn}
-use Rattle.ali_base.specs.StreetGuide.{StreetGuide}
+use Rattle.msag_ranges.specs.StreetGuide.{StreetGuide}
 use Rattle.msag_edits.specs.declared.edit_verdict.EditVerdict.{EditVerdict}
 use Rattle.number_table.specs.NumberTable.{NumberTable}
 use Rattle.msag_edits.specs.EditRules.{EditAct, add_verdict, retire_verdict, split_verdict, renumber_verdict, set_esn_verdict, add_act, retire_act, split_act, renumber_act, set_esn_act}

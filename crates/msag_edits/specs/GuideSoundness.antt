@@ -2,8 +2,8 @@
 use Rattle.std.specs.Prelude.{◌≡◌, ◌≢◌, ℕ, ◌<◌, ◌≤◌, true, List, length, All, AllPairs, IfSome, Contains}
 use Rattle.std.specs.FinMap.{get}
 use Rattle.ali_base.specs.Numbers.{zero_padded}
-use Rattle.ali_base.specs.StreetGuide.{StreetGuide, HasSoundEnds, Overlap}
-use Rattle.ali_base.specs.declared.range.Range.{Range}
+use Rattle.msag_ranges.specs.StreetGuide.{StreetGuide, HasSoundEnds, Overlap}
+use Rattle.msag_ranges.specs.declared.range.Range.{Range}
 use Rattle.ali_record.specs.Layout.{field_of}
 use Rattle.ali_record.specs.declared.field.Field.TheVariants.{Esn}
 use Rattle.number_life.specs.declared.row.Row.{Row}

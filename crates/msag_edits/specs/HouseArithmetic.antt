@@ -1,6 +1,6 @@
 -- Differences that keep the parity of house numbers, and the ends of the parts of a split.
 use Rattle.std.specs.Prelude.{ℕ, ◌+◌, ◌-◌, ◌%◌, ◌==◌, Bool, true, false, ℤ, pos, negsuc, if◌then◌else◌}
-use Rattle.ali_base.specs.StreetGuide.{has_parity}
+use Rattle.msag_ranges.specs.StreetGuide.{has_parity}
 use Rattle.ali_base.specs.declared.parity.Parity.{Parity}
 use Rattle.ali_base.specs.declared.parity.Parity.TheVariants.{Odd, Even, Both}
 

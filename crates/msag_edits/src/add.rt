@@ -3,8 +3,8 @@ ghost use Rattle.std.specs.Prelude.{◌≡◌, ◌≢◌, ◌+◌, ◌<◌, IfOk
 ghost use Rattle.msag_edits.specs.EditRules.{add_verdict, add_act, are_sound_ends};
 
 use crate::edit_verdict::EditVerdict;
-use ali_base::{Esn, House, NoMemory, Parity, Range, StreetKey};
-use msag_ranges::{Guide, GuideFault, has_parity};
+use ali_base::{Esn, House, NoMemory, Parity, StreetKey};
+use msag_ranges::{Guide, GuideFault, Range, has_parity};
 
 // Whether the ends are in order and of the parity.
 fn are_sound_ends(parity: Parity, low: House, high: House) -> bool

@@ -5,8 +5,8 @@ ghost use Rattle.number_table.specs.HouseArithmetic.{stays_house};
 ghost use Rattle.msag_edits.specs.HouseArithmetic.{is_odd, is_one_parity, last_to, first_above};
 ghost use Rattle.msag_edits.specs.EditRules.{shifted, has_empty_part};
 
-use ali_base::{House, Parity, Range};
-use msag_ranges::has_parity;
+use ali_base::{House, Parity};
+use msag_ranges::{Range, has_parity};
 use number_table::added;
 
 /// The range with the difference added to both ends; None where an end is then below 0 or above

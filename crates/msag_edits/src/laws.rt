@@ -1,11 +1,11 @@
 //! Laws of the arithmetic of splits and differences, for whoever reads the definitions.
 ghost use Rattle.std.specs.Prelude.{◌≡◌, ℕ, ◌<◌, ◌≤◌, ◌↔◌, ◌⊎◌, ◌&&◌, not, nat_le, true, false};
-ghost use Rattle.ali_base.specs.StreetGuide.{HasSoundEnds, is_held};
+ghost use Rattle.msag_ranges.specs.StreetGuide.{HasSoundEnds, is_held};
 ghost use Rattle.number_table.specs.HouseArithmetic.{added, stays_house};
 ghost use Rattle.msag_edits.specs.HouseArithmetic.{is_odd, is_one_parity};
 ghost use Rattle.msag_edits.specs.EditRules.{has_empty_part, lower_part, upper_part, shifted};
 
-use ali_base::Range;
+use msag_ranges::Range;
 
 /// The parts of a split of a range whose ends are sound: one of them would hold no number exactly
 /// where 505 says so; otherwise the lower part holds the range's numbers up to `at`, the upper part

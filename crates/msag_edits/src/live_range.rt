@@ -1,9 +1,8 @@
 //! The range that an edit names.
 ghost use Rattle.std.specs.Prelude.{◌≡◌};
-ghost use Rattle.ali_base.specs.StreetGuide.{IsSoundGuide, range_of};
+ghost use Rattle.msag_ranges.specs.StreetGuide.{IsSoundGuide, range_of};
 
-use ali_base::Range;
-use msag_ranges::Guide;
+use msag_ranges::{Guide, Range};
 
 /// The range of this id, and with it what every guide keeps.
 pub(crate) fn live_range(guide: &Guide, id: u32) -> Option<Range>

@@ -6,8 +6,8 @@ ghost use Rattle.number_table.specs.HeldRows.{AreChanged};
 use crate::edit_verdict::EditVerdict;
 use crate::houses::{first_above, has_empty_part, last_to};
 use crate::live_range::live_range;
-use ali_base::{Esn, House, NoMemory, Range};
-use msag_ranges::{Guide, GuideFault};
+use ali_base::{Esn, House, NoMemory};
+use msag_ranges::{Guide, GuideFault, Range};
 use number_table::RowMover;
 
 /// Makes the numbers of the range of this id above `at` a new range with this ESN, which the rows of

@@ -6,9 +6,9 @@ use Rattle.std.proofs.lemmas.List.Folds.{Any-from_list_any, list_any-from_Any}
 use Rattle.std.proofs.lemmas.List.FromFn.{length-range_with_len, get_or-range_with_len}
 use Rattle.std.proofs.lemmas.Bool.Decides.{nat_tests}
 use Rattle.ali_base.specs.StreetKey.{same_key}
-use Rattle.ali_base.specs.StreetGuide.{has_parity, is_held, share_number, overlaps, Overlap}
+use Rattle.msag_ranges.specs.StreetGuide.{has_parity, is_held, share_number, overlaps, Overlap}
 use Rattle.ali_base.specs.declared.parity.Parity.{Parity}
-use Rattle.ali_base.specs.declared.range.Range.{Range}
+use Rattle.msag_ranges.specs.declared.range.Range.{Range}
 use Rattle.msag_ranges.specs.HeldNumbers.{IsLeastFrom}
 use Rattle.msag_ranges.proofs.Streets.{same_key-same, same_key-refl}
 

@@ -1,2 +1,3 @@
+pub mod StreetGuide
 pub mod HeldNumbers
 pub mod GuideChanges

@@ -3,14 +3,15 @@ ghost use Rattle.std.specs.Prelude.{◌≡◌, ◌+◌, ◌<◌, ◌≤◌, ◌=
 ghost use Rattle.std.specs.List.{list_any};
 ghost use Rattle.ali_base.specs.StreetKey.{same_key};
 ghost use Rattle.std.specs.Option.{option_copied};
-ghost use Rattle.ali_base.specs.StreetGuide.{IsSoundGuide, MayStand, is_other, overlaps, is_between_ends, holds, holder, range_of, nearest_fault, least_overlap, new_range, moved, with_moved, without};
-ghost use Rattle.ali_base.specs.declared.range.Range.{Range};
+ghost use Rattle.msag_ranges.specs.StreetGuide.{IsSoundGuide, MayStand, is_other, overlaps, is_between_ends, holds, holder, range_of, nearest_fault, least_overlap, new_range, moved, with_moved, without};
+ghost use Rattle.msag_ranges.specs.declared.range.Range.{Range};
 ghost use Rattle.msag_ranges.specs.GuideChanges.{HasNoRoom};
 
 use crate::guide_fault::GuideFault;
 use crate::held_numbers::{holds, is_between_ends, same_key};
-use crate::overlap_test::{is_other, overlaps};
-use ali_base::{Esn, House, NoMemory, Parity, Range, StreetKey};
+use crate::overlap::{is_other, overlaps};
+use crate::range::Range;
+use ali_base::{Esn, House, NoMemory, Parity, StreetKey};
 use std::alloc::Global;
 use std::marker::Model;
 
@@ -24,7 +25,7 @@ pub struct Guide {
 
 impl Model for Guide {
     ghost use Rattle.std.specs.Prelude.{◌-◌, min, length, vec_capacity};
-    ghost use Rattle.ali_base.specs.StreetGuide.{StreetGuide, IsSoundGuide};
+    ghost use Rattle.msag_ranges.specs.StreetGuide.{StreetGuide, IsSoundGuide};
 
     ghost Value = { StreetGuide };
 

@@ -4,10 +4,11 @@
 mod guide;
 mod guide_fault;
 mod held_numbers;
-mod overlap_test;
+mod overlap;
+mod range;
 
-pub use ali_base::{Parity, Range, StreetKey};
 pub use guide::Guide;
 pub use guide_fault::GuideFault;
 pub use held_numbers::{greatest_to, has_parity, has_sound_ends, holds, least_from};
-pub use overlap_test::overlaps;
+pub use overlap::overlaps;
+pub use range::Range;

@@ -3,9 +3,9 @@ use Rattle.std.proofs.Common.{◌≡◌, ℕ, ℤ, ◌≤◌, Bool, true, false,
 use Rattle.std.specs.Option.{option_map_or}
 use Rattle.std.proofs.lemmas.Bool.Decides.{nat_tests}
 use Rattle.ali_base.specs.Steps.{when}
-use Rattle.ali_base.specs.StreetGuide.{has_parity, holds, is_held}
+use Rattle.msag_ranges.specs.StreetGuide.{has_parity, holds, is_held}
 use Rattle.ali_base.specs.StreetKey.{same_key}
-use Rattle.ali_base.specs.declared.range.Range.{Range}
+use Rattle.msag_ranges.specs.declared.range.Range.{Range}
 use Rattle.ali_record.specs.Address.{record_key}
 use Rattle.msag_ranges.proofs.Overlapping.{both, and-true}
 use Rattle.number_table.specs.HouseArithmetic.{stays_house}

@@ -9,7 +9,7 @@ use Rattle.std.specs.declared.cmp.Ordering.TheVariants.{Less}
 use Rattle.std.proofs.lemmas.Cmp.{nat_list_cmp_total}
 use Rattle.std.specs.FinMap.{get, entries, from_entries, len-entries, len-empty, entries-insert, get-from_entries}
 use Rattle.std.specs.FinMap.Entries as ordered
-use Rattle.ali_base.specs.declared.range.Range.{Range}
+use Rattle.msag_ranges.specs.declared.range.Range.{Range}
 use Rattle.number_life.specs.declared.row.Row.{Row}
 use Rattle.number_table.specs.NumberTable.{NumberTable, tn_cmp}
 use Rattle.number_table.specs.HeldRows.{AreChanged, holds_row, count_held, least_held}

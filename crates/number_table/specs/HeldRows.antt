@@ -3,8 +3,8 @@ use Rattle.std.specs.Prelude.{◌≡◌, ℕ, ℤ, Bool, false, List, length, ma
 use Rattle.std.specs.Option.{option_map, option_map_or}
 use Rattle.std.specs.FinMap.{get, entries, from_entries}
 use Rattle.ali_base.specs.HouseNumber.{house_of}
-use Rattle.ali_base.specs.StreetGuide.{holds}
-use Rattle.ali_base.specs.declared.range.Range.{Range}
+use Rattle.msag_ranges.specs.StreetGuide.{holds}
+use Rattle.msag_ranges.specs.declared.range.Range.{Range}
 use Rattle.ali_record.specs.Address.{record_key}
 use Rattle.ali_record.specs.FieldChanges.{with_house, with_esn}
 use Rattle.ali_record.specs.Layout.{field_of}

@@ -4,8 +4,8 @@ ghost use Rattle.number_table.specs.HouseArithmetic.{stays_house};
 ghost use Rattle.number_table.specs.HeldRows.{holds_row, shifted_row, esn_row};
 
 use crate::houses::added;
-use ali_base::{Esn, Range};
-use msag_ranges::holds;
+use ali_base::Esn;
+use msag_ranges::{Range, holds};
 use number_life::Row;
 
 /// Whether the range holds the address of the row.

@@ -4,7 +4,8 @@ ghost use Rattle.number_table.specs.HouseArithmetic.{stays_house};
 ghost use Rattle.number_table.specs.NumberTable.{NumberTable};
 ghost use Rattle.number_table.specs.HeldRows.{AreChanged, count_held, least_held, shifted_row, esn_row};
 
-use ali_base::{Esn, Range, Tn};
+use ali_base::{Esn, Tn};
+use msag_ranges::Range;
 
 /// Rows by telephone number, of which those that a range holds can be changed at once.
 pub trait RowMover {

@@ -9,7 +9,8 @@ ghost use Rattle.number_table.specs.HeldRows.{holds_row, count_held};
 
 use crate::row_changes::{is_held, set_row_esn, shift_row};
 use crate::row_mover::RowMover;
-use ali_base::{Day, Esn, NoMemory, Range, Tn};
+use ali_base::{Day, Esn, NoMemory, Tn};
+use msag_ranges::Range;
 use number_life::Row;
 use std::alloc::Global;
 use std::collections::BTreeMap;

@@ -2,8 +2,8 @@
 use Rattle.std.proofs.Common.{◌≡◌, ◌≢◌, ℕ, ◌+◌, ◌≤◌, ◌==◌, true, false, cond, List, refl, ap, sym, ◌∙◌, arith, Option, Some, None}
 use Rattle.std.specs.Option.{option_map_or}
 use Rattle.std.proofs.lemmas.Bool.Decides.{nat_tests}
-use Rattle.ali_base.specs.StreetGuide.{StreetGuide, range_of}
-use Rattle.ali_base.specs.declared.range.Range.{Range}
+use Rattle.msag_ranges.specs.StreetGuide.{StreetGuide, range_of}
+use Rattle.msag_ranges.specs.declared.range.Range.{Range}
 use Rattle.number_table.specs.NumberTable.{NumberTable}
 use Rattle.number_table.specs.HeldRows.{AreChanged, changed}
 use Rattle.number_table.proofs.ChangedRows.{changed-only}

@@ -5,9 +5,9 @@ use Rattle.std.proofs.lemmas.Bool.{not-false}
 use Rattle.std.proofs.lemmas.List.{length-map}
 use Rattle.std.proofs.lemmas.Bool.Decides.{nat_tests}
 use Rattle.std.proofs.lemmas.List.Elements.{All-contains, All-filter, All-map, All-push}
-use Rattle.ali_base.specs.StreetGuide.{StreetGuide, HasSoundEnds, IsSoundGuide, MayStand, has_parity, least_overlap, range_of, new_range, moved, with_moved}
+use Rattle.msag_ranges.specs.StreetGuide.{StreetGuide, HasSoundEnds, IsSoundGuide, MayStand, has_parity, least_overlap, range_of, new_range, moved, with_moved}
 use Rattle.ali_base.specs.declared.parity.Parity.{Parity}
-use Rattle.ali_base.specs.declared.range.Range.{Range}
+use Rattle.msag_ranges.specs.declared.range.Range.{Range}
 use Rattle.ali_base.specs.declared.street_key.StreetKey.{StreetKey}
 use Rattle.msag_edits.specs.declared.edit_verdict.EditVerdict.{EditVerdict}
 use Rattle.msag_edits.specs.EditRules.{EditAct, are_sound_ends, is_esn, has_empty_part, shifted, refused, done, new_id, unless_overlap, for_range, add_verdict, split_verdict, renumber_verdict, set_esn_verdict, add_act, retire_act, split_act, renumber_act, set_esn_act, upper_part}

@@ -2,7 +2,7 @@
 use Rattle.std.proofs.Common.{◌≡◌, ◌<◌, ◌^◌, ℕ, ◌==◌, ◌&&◌, nat_le, Bool, true, false, cond, List, ap, sym, ◌∙◌, Option, Some, None, Ok, Err, Result, MatchResult}
 use Rattle.std.specs.Result.{IsErrAnd}
 use Rattle.std.specs.FinMap.{get, len}
-use Rattle.ali_base.specs.declared.range.Range.{Range}
+use Rattle.msag_ranges.specs.declared.range.Range.{Range}
 use Rattle.ali_record.specs.Layout.{field_of, byte_of}
 use Rattle.ali_record.specs.RecordReading.{reading_code}
 use Rattle.ali_record.specs.declared.field.Field.TheVariants as field

@@ -2,7 +2,7 @@
 use Rattle.std.proofs.Common.{List, [], ◌∷◌, arith, sym, subst, IfSome}
 use Rattle.std.specs.List.{fold}
 use Rattle.std.specs.FinMap.{get-empty}
-use Rattle.ali_base.specs.StreetGuide.{IsSoundGuide}
+use Rattle.msag_ranges.specs.StreetGuide.{IsSoundGuide}
 use Rattle.msag_edits.specs.GuideSoundness.{AreSound, IsPlaced}
 use Rattle.msag_edits.proofs.Soundness.{sound-from}
 use Rattle.number_table.specs.NumberTable.{no_numbers, tn_cmp}

@@ -2,7 +2,7 @@
 use Rattle.std.proofs.Common.{◌≡◌, ◌≢◌, ℕ, ◌+◌, ◌≤◌, ◌==◌, true, false, cond, List, [], ◌∷◌, length, Option, Ok, refl, ap, subst, sym, ◌∙◌, arith, IfSome}
 use Rattle.std.specs.List.{fold}
 use Rattle.std.specs.FinMap.{get-empty}
-use Rattle.ali_base.specs.StreetGuide.{StreetGuide}
+use Rattle.msag_ranges.specs.StreetGuide.{StreetGuide}
 use Rattle.number_table.specs.NumberTable.{NumberTable, no_numbers, tn_cmp}
 use Rattle.sequence_once.specs.KeptCycles.{CyclesState, after_open, after_note}
 use Rattle.sequence_once.specs.SerialStanding.{EditRecord, no_edits}

@@ -6,8 +6,8 @@ use Rattle.std.specs.FinMap.{get, insert, remove, get-insert, get-remove}
 use Rattle.std.proofs.lemmas.Bool.Decides.{nat_tests}
 use Rattle.std.proofs.lemmas.Cmp.{nat_list_cmp_total}
 use Rattle.ali_base.specs.CivilDay.{CivilDay, day_of}
-use Rattle.ali_base.specs.StreetGuide.{StreetGuide, IsSoundGuide}
-use Rattle.ali_base.specs.declared.range.Range.{Range}
+use Rattle.msag_ranges.specs.StreetGuide.{StreetGuide, IsSoundGuide}
+use Rattle.msag_ranges.specs.declared.range.Range.{Range}
 use Rattle.ali_record.specs.Layout.{field_of, byte_of}
 use Rattle.ali_record.specs.RecordReading.{is_function, sends_address}
 use Rattle.ali_record.specs.declared.field.Field.TheVariants as field

@@ -5,9 +5,9 @@ use Rattle.std.proofs.lemmas.List.{length-take-le}
 use Rattle.std.proofs.lemmas.List.Elements.{All-contains}
 use Rattle.ali_base.specs.HouseNumber.{house_of}
 use Rattle.ali_base.specs.Numbers.{zero_padded}
-use Rattle.ali_base.specs.Placement.{place, place_by, esn_agrees}
-use Rattle.ali_base.specs.StreetGuide.{holds, holder, nearest_fault}
-use Rattle.ali_base.specs.declared.range.Range.{Range}
+use Rattle.address_check.specs.Placement.{place, place_by, esn_agrees}
+use Rattle.msag_ranges.specs.StreetGuide.{holds, holder, nearest_fault}
+use Rattle.msag_ranges.specs.declared.range.Range.{Range}
 use Rattle.ali_base.specs.declared.street_key.StreetKey.{StreetKey}
 use Rattle.address_check.specs.RecordPlace.{place_of_record}
 use Rattle.ali_record.specs.Address.{record_key}

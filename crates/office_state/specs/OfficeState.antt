@@ -1,6 +1,6 @@
 -- The state of the office, which is all that the booked history makes of it.
 use Rattle.std.specs.Prelude.{ℕ, List, [], Option}
-use Rattle.ali_base.specs.StreetGuide.{StreetGuide}
+use Rattle.msag_ranges.specs.StreetGuide.{StreetGuide}
 use Rattle.sequence_once.specs.KeptCycles.{CyclesState}
 use Rattle.sequence_once.specs.SerialStanding.{EditRecord, no_edits}
 use Rattle.number_table.specs.NumberTable.{NumberTable, no_numbers}

@@ -1,10 +1,10 @@
 -- How the state of an office is stored as a value: as tuples of its parts. Nothing is said here of what it means.
 use Rattle.std.specs.Prelude.{◌≡◌, ℕ, zero, suc, List, Option, refl}
 use Rattle.std.specs.Coded.{Coded, code_by, coded_list, coded_ℕ, coded×, coded_option}
-use Rattle.ali_base.specs.StreetGuide.{StreetGuide}
+use Rattle.msag_ranges.specs.StreetGuide.{StreetGuide}
 use Rattle.ali_base.specs.declared.parity.Parity.{Parity}
 use Rattle.ali_base.specs.declared.parity.Parity.TheVariants.{Odd, Even, Both}
-use Rattle.ali_base.specs.declared.range.Range.{Range}
+use Rattle.msag_ranges.specs.declared.range.Range.{Range}
 use Rattle.ali_base.specs.declared.street_key.StreetKey.{StreetKey}
 use Rattle.sequence_once.specs.KeptCycles.{CycleRecord, CyclesState}
 use Rattle.sequence_once.specs.SerialStanding.{EditRecord}

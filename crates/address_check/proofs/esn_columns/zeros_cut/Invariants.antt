@@ -1,5 +1,5 @@
 use Rattle.std.proofs.Common.{◌≡◌, length}
-use Rattle.ali_base.specs.Placement.{zeros_cut}
+use Rattle.address_check.specs.Placement.{zeros_cut}
 use Rattle.address_check.proofs.esn_columns.zeros_cut.Given as goal
 
 abbrev pub invariant-loop-rest : goal.invariant-loop-rest

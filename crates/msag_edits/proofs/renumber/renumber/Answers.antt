@@ -1,8 +1,8 @@
 use Rattle.std.proofs.Common.{◌≡◌, false, ◌&&◌, Some, None, subst, sym, ◌∙◌, IfSome, ℤ, w32, to_z, of_z}
 use Rattle.std.proofs.lemmas.Int.{to_z-of_z}
 use Rattle.ali_base.specs.Steps.{when}
-use Rattle.ali_base.specs.StreetGuide.{range_of, least_overlap, moved, MayStand}
-use Rattle.ali_base.specs.declared.range.Range.{Range}
+use Rattle.msag_ranges.specs.StreetGuide.{range_of, least_overlap, moved, MayStand}
+use Rattle.msag_ranges.specs.declared.range.Range.{Range}
 use Rattle.number_table.specs.HouseArithmetic.{added, stays_house}
 use Rattle.msag_edits.specs.HouseArithmetic.{is_odd, is_one_parity}
 use Rattle.msag_edits.specs.EditRules.{shifted}

@@ -1,5 +1,5 @@
 use Rattle.std.proofs.Common.{◌≡◌, Some}
-use Rattle.ali_base.specs.StreetGuide.{range_of}
+use Rattle.msag_ranges.specs.StreetGuide.{range_of}
 use Rattle.msag_edits.proofs.Ranges.{may_stand-esn, set-asks}
 use Rattle.msag_edits.proofs.set_esn.set_esn.Goals as goal
 

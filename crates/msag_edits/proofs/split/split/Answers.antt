@@ -1,6 +1,6 @@
 use Rattle.std.proofs.Common.{◌≡◌, false, Some, None, subst, sym, ◌∙◌, ap, List, ℕ}
-use Rattle.ali_base.specs.StreetGuide.{StreetGuide, range_of, MayStand, with_moved, new_range}
-use Rattle.ali_base.specs.declared.range.Range.{Range}
+use Rattle.msag_ranges.specs.StreetGuide.{StreetGuide, range_of, MayStand, with_moved, new_range}
+use Rattle.msag_ranges.specs.declared.range.Range.{Range}
 use Rattle.msag_edits.specs.HouseArithmetic.{last_to}
 use Rattle.msag_edits.specs.EditRules.{has_empty_part}
 use Rattle.msag_edits.proofs.Ranges.{may_stand-lower, may_stand-upper, upper-limit, set-asks-at, both_parts}

@@ -1,5 +1,5 @@
 use Rattle.std.proofs.Common.{◌≤◌, ◌+◌, ◌-◌, min, length, refl, arith, subst, sym, None, vec_capacity}
-use Rattle.ali_base.specs.StreetGuide.{StreetGuide, IsSoundGuide, MayStand, new_range}
+use Rattle.msag_ranges.specs.StreetGuide.{StreetGuide, IsSoundGuide, MayStand, new_range}
 use Rattle.msag_ranges.proofs.GuideKept.{sound-add}
 use Rattle.msag_ranges.proofs.guide.Guide.add.Goals as goal
 

@@ -1,7 +1,7 @@
 use Rattle.std.proofs.Common.{rules, ◌≡◌, ◌-◌, ◌==◌, not, List, min, length, subst, sym, ap, ◌∙◌, vec_capacity}
 use Rattle.std.proofs.lemmas.Fn.{filter_same}
-use Rattle.ali_base.specs.StreetGuide.{StreetGuide, IsSoundGuide, without}
-use Rattle.ali_base.specs.declared.range.Range.{Range}
+use Rattle.msag_ranges.specs.StreetGuide.{StreetGuide, IsSoundGuide, without}
+use Rattle.msag_ranges.specs.declared.range.Range.{Range}
 use Rattle.msag_ranges.proofs.GuideKept.{sound-remove}
 use Rattle.msag_ranges.proofs.guide.Guide.remove.Goals as goal
 

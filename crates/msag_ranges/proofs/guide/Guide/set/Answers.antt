@@ -1,6 +1,6 @@
 use Rattle.std.proofs.Common.{◌≡◌, ◌-◌, ◌==◌, List, length, min, arith, position, Some, IfSome, IsSome, false, true, slice_set, subst, sym, ap, ◌∙◌}
-use Rattle.ali_base.specs.StreetGuide.{StreetGuide, MayStand, range_of, moved, with_moved}
-use Rattle.ali_base.specs.declared.range.Range.{Range}
+use Rattle.msag_ranges.specs.StreetGuide.{StreetGuide, MayStand, range_of, moved, with_moved}
+use Rattle.msag_ranges.specs.declared.range.Range.{Range}
 use Rattle.msag_ranges.proofs.GuideKept.{sound-moved, find-no_place}
 use Rattle.msag_ranges.proofs.guide.Guide.set.Goals as goal
 

@@ -5,7 +5,7 @@ use Rattle.std.specs.Option.{option_map_or}
 use Rattle.ali_base.specs.StreetKey.{same_key}
 use Rattle.ali_base.specs.declared.parity.Parity.{Parity}
 use Rattle.ali_base.specs.declared.parity.Parity.TheVariants.{Odd, Even, Both}
-use Rattle.ali_base.specs.declared.range.Range.{Range}
+use Rattle.msag_ranges.specs.declared.range.Range.{Range}
 use Rattle.ali_base.specs.declared.street_key.StreetKey.{StreetKey}
 
 -- the number has the parity

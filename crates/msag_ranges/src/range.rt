@@ -1,8 +1,5 @@
 //! A line of the street guide.
-use crate::esn::Esn;
-use crate::house::House;
-use crate::parity::Parity;
-use crate::street_key::StreetKey;
+use ali_base::{Esn, House, Parity, StreetKey};
 
 /// A range of the street guide: it holds the numbers of its street from `low` to `high` that have
 /// its parity, and gives them their emergency service number.
