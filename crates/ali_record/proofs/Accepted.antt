@@ -1,6 +1,7 @@
 -- What reading says of a record that it accepts.
-use Rattle.std.proofs.Common.{◌≡◌, ℕ, ◌<◌, ◌==◌, ◌&&◌, Bool, true, false, List, [], ◌∷◌, length, refl, ap, sym, ◌∙◌, not, cond, arith, Option, Some, None, is_none, IsSome, if◌then◌else◌}
+use Rattle.std.proofs.Common.{◌≡◌, ℕ, ◌==◌, ◌&&◌, Bool, true, false, List, [], ◌∷◌, length, refl, ap, sym, ◌∙◌, not, Option, Some, None, is_none, IsSome, if◌then◌else◌}
 use Rattle.std.specs.List.{AllByRecursion, list_all}
+use Rattle.std.specs.Option.{option_map_or}
 use Rattle.std.specs.Char.{is_ascii_digit}
 use Rattle.std.specs.Str.{bytes_eq}
 use Rattle.ali_base.specs.Columns.{is_printable}
@@ -9,27 +10,36 @@ use Rattle.ali_base.specs.TelephoneNumber.{tn_of}
 use Rattle.ali_base.specs.CivilDay.{day_of}
 use Rattle.ali_base.specs.Company.{is_company}
 use Rattle.ali_record.specs.Layout.{field_of, byte_of}
-use Rattle.ali_record.specs.RecordReading.{IsAccepted, reading_code, conditions, first_code, is_function, sends_address, is_class_of_service, is_type_of_service}
+use Rattle.ali_record.specs.RecordReading.{IsAccepted, reading_code, conditions, fault_code, first_fault, is_function, sends_address, is_class_of_service, is_type_of_service}
 use Rattle.ali_record.specs.declared.field.Field.TheVariants.{Function, TelephoneNumber, HouseNumber, ExtractDate, ClassOfService, TypeOfService, Company, EndMark}
+use Rattle.ali_record.specs.declared.reading_fault.ReadingFault.{ReadingFault}
+use Rattle.ali_record.specs.declared.reading_fault.ReadingFault.TheVariants as fault
 
--- the first condition does not hold, and the others decide
-passes : (b : Bool) (n : ℕ) (cs : List (Bool × ℕ)) → first_code ((b, n) ∷ cs) ≡ 0 → 0 < n → (b ≡ false) × (first_code cs ≡ 0)
-passes true n cs h positive = absurd (omega arith)
-passes false n cs h positive = (refl, h)
+-- each fault has a code
+pub has_code : (fault : ReadingFault) → fault_code fault ≡ 0 → ⊥
+has_code fault.Function h = cc
+has_code fault.TelephoneNumber h = cc
+has_code fault.HouseNumber h = cc
+has_code fault.ClassOfService h = cc
+has_code fault.TypeOfService h = cc
+has_code fault.Company h = cc
+has_code fault.ExtractDate h = cc
+has_code fault.EndMark h = cc
+has_code fault.Unprintable h = cc
 
-none_holds : (cs : List (Bool × ℕ)) → AllByRecursion (λ c. 0 < c.1) cs → first_code cs ≡ 0 → AllByRecursion (λ c. c.0 ≡ false) cs
-none_holds [] positive h = tt
-none_holds (c ∷ cs) positive h =
-    let p = passes c.0 c.1 cs h positive.0 in
-    (p.0, none_holds cs positive.1 p.1)
+none_holds : (cs : List (Bool × ReadingFault)) → option_map_or fault_code (first_fault cs) 0 ≡ 0 → AllByRecursion (λ c. c.0 ≡ false) cs
+none_holds [] h = tt
+none_holds ((true, fault) ∷ cs) h = absurd (has_code fault h)
+none_holds ((false, fault) ∷ cs) h = (refl, none_holds cs h)
 
--- none of the conditions holds of a record that is accepted
+-- none of the conditions holds of a record that is read
+pub read-none : (company b : List ℕ) → reading_code company b ≡ 0 → AllByRecursion (λ c. c.0 ≡ false) (conditions company b)
+unfolding reading_code
+read-none company b h = none_holds (conditions company b) h
+
+-- nor of a record that is accepted
 pub accepted-none : (b : List ℕ) → IsAccepted b → AllByRecursion (λ c. c.0 ≡ false) (conditions (field_of b Company) b)
-unfolding reading_code conditions
-accepted-none b h =
-    none_holds (conditions (field_of b Company) b)
-    (omega arith, (omega arith, (omega arith, (omega arith, (omega arith, (omega arith, (omega arith, (omega arith, (omega arith, tt)))))))))
-    h.reading
+accepted-none b h = read-none (field_of b Company) b h.reading
 
 some_of : {A : Type 0} (o : Option A) → is_none o ≡ false → IsSome o
 some_of None h = cc
@@ -58,9 +68,9 @@ tn_of-same bytes tn h = by_test ((length bytes == 10) && list_all is_ascii_digit
     by_test true h = cc
     by_test false h = cc
 
-none_of : (cs : List (Bool × ℕ)) → AllByRecursion (λ c. c.0 ≡ false) cs → first_code cs ≡ 0
+none_of : (cs : List (Bool × ReadingFault)) → AllByRecursion (λ c. c.0 ≡ false) cs → option_map_or fault_code (first_fault cs) 0 ≡ 0
 none_of [] h = refl
-none_of (c ∷ cs) h = ap (λ b. cond b c.1 (first_code cs)) h.0 ∙ none_of cs h.1
+none_of (c ∷ cs) h = rw h.0 (none_of cs h.1)
 
 -- a record that is like an accepted one in what the conditions read is accepted
 pub accepted-like : (b c : List ℕ) → IsAccepted b

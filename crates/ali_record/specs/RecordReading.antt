@@ -1,6 +1,7 @@
 -- Reading a record of a company's file: a list of conditions over the whole record, of which the first that holds decides.
-use Rattle.std.specs.Prelude.{◌≡◌, ℕ, ◌==◌, ◌&&◌, ◌||◌, Bool, true, not, nat_le, List, [], ◌∷◌, is_none, if◌then◌else◌}
+use Rattle.std.specs.Prelude.{◌≡◌, ℕ, ◌==◌, ◌&&◌, ◌||◌, Bool, true, not, nat_le, List, [], ◌∷◌, Option, Some, None, is_none, if◌then◌else◌}
 use Rattle.std.specs.List.{list_all}
+use Rattle.std.specs.Option.{option_map_or}
 use Rattle.std.specs.Str.{bytes_eq}
 use Rattle.ali_base.specs.Columns.{is_printable}
 use Rattle.ali_base.specs.TelephoneNumber.{tn_of}
@@ -9,6 +10,8 @@ use Rattle.ali_base.specs.CivilDay.{day_of}
 use Rattle.ali_base.specs.Company.{is_company}
 use Rattle.ali_record.specs.Layout.{field_of, byte_of}
 use Rattle.ali_record.specs.declared.field.Field.TheVariants.{Function, TelephoneNumber, HouseNumber, ExtractDate, ClassOfService, TypeOfService, Company, EndMark}
+use Rattle.ali_record.specs.declared.reading_fault.ReadingFault.{ReadingFault}
+use Rattle.ali_record.specs.declared.reading_fault.ReadingFault.TheVariants as fault
 
 -- a function: I, C, D, U or M
 abbrev pub is_function : ℕ → Bool
@@ -26,35 +29,47 @@ is_class_of_service byte = (nat_le 48 byte && nat_le byte 57) || (nat_le 65 byte
 abbrev pub sends_address : ℕ → Bool
 sends_address function = (function == 73) || (function == 67) || (function == 77)
 
--- the conditions, each with its code; company is the five bytes of the file's header
-unfoldable pub conditions : List ℕ → List ℕ → List (Bool × ℕ)
+-- the code of a fault
+abbrev pub fault_code : ReadingFault → ℕ
+fault_code fault.Function = 101
+fault_code fault.TelephoneNumber = 102
+fault_code fault.HouseNumber = 103
+fault_code fault.ClassOfService = 104
+fault_code fault.TypeOfService = 105
+fault_code fault.Company = 106
+fault_code fault.ExtractDate = 107
+fault_code fault.EndMark = 108
+fault_code fault.Unprintable = 109
+
+-- the conditions, each with its fault, in the order in which they are tested; company is the five bytes of the file's header
+unfoldable pub conditions : List ℕ → List ℕ → List (Bool × ReadingFault)
 conditions company b =
     -- the record does not end with `*`
-    (not (byte_of b EndMark == 42), 108)
+    (not (byte_of b EndMark == 42), fault.EndMark)
     -- a byte is not one from the space to the tilde
-    ∷ (not (list_all is_printable b), 109)
+    ∷ (not (list_all is_printable b), fault.Unprintable)
     -- the function is none of the five
-    ∷ (not (is_function (byte_of b Function)), 101)
+    ∷ (not (is_function (byte_of b Function)), fault.Function)
     -- the telephone number is not ten digits
-    ∷ (is_none (tn_of (field_of b TelephoneNumber)), 102)
+    ∷ (is_none (tn_of (field_of b TelephoneNumber)), fault.TelephoneNumber)
     -- the company is not the file's
-    ∷ (not (bytes_eq (field_of b Company) company), 106)
+    ∷ (not (bytes_eq (field_of b Company) company), fault.Company)
     -- the extract date is no civil day of 2000 to 2099
-    ∷ (is_none (day_of (field_of b ExtractDate)), 107)
+    ∷ (is_none (day_of (field_of b ExtractDate)), fault.ExtractDate)
     -- the house number of an address cannot be read
-    ∷ (sends_address (byte_of b Function) && is_none (house_of (field_of b HouseNumber)), 103)
-    ∷ (sends_address (byte_of b Function) && not (is_class_of_service (byte_of b ClassOfService)), 104)
-    ∷ (sends_address (byte_of b Function) && not (is_type_of_service (byte_of b TypeOfService)), 105)
+    ∷ (sends_address (byte_of b Function) && is_none (house_of (field_of b HouseNumber)), fault.HouseNumber)
+    ∷ (sends_address (byte_of b Function) && not (is_class_of_service (byte_of b ClassOfService)), fault.ClassOfService)
+    ∷ (sends_address (byte_of b Function) && not (is_type_of_service (byte_of b TypeOfService)), fault.TypeOfService)
     ∷ []
 
--- the code of the first condition that holds, or 0
-abbrev pub first_code : List (Bool × ℕ) → ℕ
-first_code [] = 0
-first_code (c ∷ cs) = if c.0 then c.1 else first_code cs
+-- the fault of the first condition that holds
+abbrev pub first_fault : List (Bool × ReadingFault) → Option ReadingFault
+first_fault [] = None
+first_fault (c ∷ cs) = if c.0 then Some c.1 else first_fault cs
 
 -- the code of a record in a file of this company that is read alone; 0 where it is accepted
 unfoldable pub reading_code : List ℕ → List ℕ → ℕ
-reading_code company b = first_code (conditions company b)
+reading_code company b = option_map_or fault_code (first_fault (conditions company b)) 0
 
 -- a record that a file of its own company may hold
 pub record IsAccepted (b : List ℕ) : Type 0 where

@@ -4,7 +4,11 @@
 mod address;
 mod changes;
 mod field;
+mod function;
+mod reading_fault;
 mod record;
 
 pub use field::Field;
+pub use function::Function;
+pub use reading_fault::ReadingFault;
 pub use record::{Record, read_record};

@@ -1,12 +1,14 @@
 //! Reading a record.
-ghost use Rattle.std.specs.Prelude.{◌≡◌, ◌≢◌, ℕ, ◌+◌, ◌≤◌, List, length, true, Some, IsSome, MatchResult};
+ghost use Rattle.std.specs.Prelude.{◌≡◌, ◌≢◌, ℕ, ◌+◌, ◌≤◌, List, length, true, Some, None, IsSome, MatchResult};
 ghost use Rattle.ali_base.specs.Columns.{trimmed, is_blank};
 ghost use Rattle.ali_base.specs.HouseNumber.{house_of};
 ghost use Rattle.ali_base.specs.CivilDay.{day_of};
+ghost use Rattle.ali_base.specs.Company.{is_company};
 ghost use Rattle.ali_record.specs.Layout.{field_of, byte_of, field_columns};
-ghost use Rattle.ali_record.specs.RecordReading.{IsAccepted, reading_code, is_function, sends_address, is_class_of_service, is_type_of_service};
+ghost use Rattle.ali_record.specs.RecordReading.{IsAccepted, conditions, first_fault, reading_code, is_function, sends_address, is_class_of_service, is_type_of_service};
 
 use crate::field::Field;
+use crate::reading_fault::ReadingFault;
 use ali_base::{Company, Day, House, Tn, columns, is_blank, is_printable, trimmed};
 use std::marker::Model;
 
@@ -39,41 +41,16 @@ impl Model for Record {
 /// - 103, of I, C and M: the house number cannot be read, or is above 999,999
 /// - 104, of I, C and M: the class of service is not 0 to 9 or A to Z
 /// - 105, of I, C and M: the type of service is not 0 to 9
-#[tactic(auto, unfolding(crate::specs::RecordReading::reading_code, crate::specs::RecordReading::conditions))]
+#[tactic(auto, unfolding(crate::specs::RecordReading::reading_code))]
 pub fn read_record(bytes: &[u8; 512], company: Company) -> Result<Record, u16>
     ensures { MatchResult result
         (λ record_read. (record_read ≡ bytes.now) × (reading_code company bytes.now ≡ 0))
         (λ code. (code ≡ reading_code company bytes.now) × (code ≢ 0)) }
 {
-    if byte_of(bytes, Field::EndMark) != b'*' {
-        return Err(108);
+    match first_fault(bytes, company) {
+        None => Ok(Record { bytes: *bytes }),
+        Some(fault) => Err(fault.code()),
     }
-    if !is_printable(bytes) {
-        return Err(109);
-    }
-    if !is_function(byte_of(bytes, Field::Function)) {
-        return Err(101);
-    }
-    if Tn::read(field_of(bytes, Field::TelephoneNumber)).is_none() {
-        return Err(102);
-    }
-    if field_of(bytes, Field::Company) != company.text().as_slice() {
-        return Err(106);
-    }
-    if Day::read(field_of(bytes, Field::ExtractDate)).is_none() {
-        return Err(107);
-    }
-    let addressed = sends_address(byte_of(bytes, Field::Function));
-    if addressed && House::read(field_of(bytes, Field::HouseNumber)).is_none() {
-        return Err(103);
-    }
-    if addressed && !is_class_of_service(byte_of(bytes, Field::ClassOfService)) {
-        return Err(104);
-    }
-    if addressed && !is_type_of_service(byte_of(bytes, Field::TypeOfService)) {
-        return Err(105);
-    }
-    Ok(Record { bytes: *bytes })
 }
 
 impl Record {
@@ -150,6 +127,43 @@ impl Record {
     {
         Day::read(field_of(&self.bytes, Field::ExtractDate)).unwrap()
     }
+}
+
+// The fault of the first condition that holds.
+#[tactic(auto, unfolding(crate::specs::RecordReading::conditions))]
+fn first_fault(bytes: &[u8; 512], company: Company) -> Option<ReadingFault>
+    ensures first { result ≡ first_fault (conditions company bytes.now) }
+    ensures own { result ≡ None → (field_of bytes.now Field.Company ≡ company) × (is_company company ≡ true) }
+{
+    if byte_of(bytes, Field::EndMark) != b'*' {
+        return Some(ReadingFault::EndMark);
+    }
+    if !is_printable(bytes) {
+        return Some(ReadingFault::Unprintable);
+    }
+    if !is_function(byte_of(bytes, Field::Function)) {
+        return Some(ReadingFault::Function);
+    }
+    if Tn::read(field_of(bytes, Field::TelephoneNumber)).is_none() {
+        return Some(ReadingFault::TelephoneNumber);
+    }
+    if field_of(bytes, Field::Company) != company.text().as_slice() {
+        return Some(ReadingFault::Company);
+    }
+    if Day::read(field_of(bytes, Field::ExtractDate)).is_none() {
+        return Some(ReadingFault::ExtractDate);
+    }
+    let addressed = sends_address(byte_of(bytes, Field::Function));
+    if addressed && House::read(field_of(bytes, Field::HouseNumber)).is_none() {
+        return Some(ReadingFault::HouseNumber);
+    }
+    if addressed && !is_class_of_service(byte_of(bytes, Field::ClassOfService)) {
+        return Some(ReadingFault::ClassOfService);
+    }
+    if addressed && !is_type_of_service(byte_of(bytes, Field::TypeOfService)) {
+        return Some(ReadingFault::TypeOfService);
+    }
+    None
 }
 
 // The bytes of a field.

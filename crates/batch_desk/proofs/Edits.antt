@@ -7,7 +7,7 @@ use Rattle.std.proofs.lemmas.List.{get_or-set_same, get_or-set_other}
 use Rattle.std.proofs.lemmas.Grind.{get_or-set_at}
 use Rattle.std.proofs.lemmas.Slice.Eq.{bytes_eq-Decides}
 use Rattle.ali_base.specs.Editors.{IsEditor}
-use Rattle.sequence_once.specs.SerialStanding.{EditRecord, edit_of, last_serial, serial_standing}
+use Rattle.sequence_once.specs.SerialStanding.{EditRecord, last_edit, last_serial, serial_standing}
 use Rattle.sequence_once.specs.declared.standing.Standing.TheVariants.{New, Resume, Complete}
 use Rattle.office_entry.specs.EditBytes.{edit_digest}
 use Rattle.office_entry.specs.Entries.{IsEntry}
@@ -60,7 +60,7 @@ stays_by edits i j r up within = at (cases_eq j i)
     at (inr differ) = inl (get_or-set_other edits i j (Some r) None differ)
 
 -- which an entry that is due leaves it to be
-stays_after : (s : State) (e : Entry) → IsKept s → IsEntry e → IsDue s e → (editor : ℕ) → let later = after s e in StaysOrRises (edit_of editor s.edits) (edit_of editor later.edits)
+stays_after : (s : State) (e : Entry) → IsKept s → IsEntry e → IsDue s e → (editor : ℕ) → let later = after s e in StaysOrRises (last_edit editor s.edits) (last_edit editor later.edits)
 unfolding after
 stays_after s (entry.Open company cycle count day digest) kept is due editor = inl refl
 stays_after s (entry.Line company cycle line bytes) kept is due editor = inl refl
@@ -72,16 +72,16 @@ stays_on a b c (inl same) (inr up) = inr (omega (arith, up, ap last_serial same)
 stays_on a b c (inr up) (inl same) = inr (omega (arith, up, ap last_serial same))
 stays_on a b c (inr up) (inr more) = inr (omega (arith, up, more))
 
-stays_fold : (s : State) (more : List Entry) → IsKept s → AreDue s more → (editor : ℕ) → let later = fold after s more in StaysOrRises (edit_of editor s.edits) (edit_of editor later.edits)
+stays_fold : (s : State) (more : List Entry) → IsKept s → AreDue s more → (editor : ℕ) → let later = fold after s more in StaysOrRises (last_edit editor s.edits) (last_edit editor later.edits)
 stays_fold s [] kept due editor = inl refl
 stays_fold s (e ∷ more) kept due editor = stays_on _ _ _ (stays_after s e kept due.0 due.1 editor) (stays_fold (after s e) more (kept_after s e kept due.1) due.2 editor)
 
 -- an edit that is complete twice is its editor's last with the same answer
-pub same_edit : (s : State) (more : List Entry) → IsKept s → AreDue s more → (editor serial : ℕ) (edit : Edit) → edit_standing s editor serial edit ≡ Ok Complete → let later = fold after s more in edit_standing later editor serial edit ≡ Ok Complete → edit_of editor later.edits ≡ edit_of editor s.edits
+pub same_edit : (s : State) (more : List Entry) → IsKept s → AreDue s more → (editor serial : ℕ) (edit : Edit) → edit_standing s editor serial edit ≡ Ok Complete → let later = fold after s more in edit_standing later editor serial edit ≡ Ok Complete → last_edit editor later.edits ≡ last_edit editor s.edits
 same_edit s more kept due editor serial edit first second = at (stays_fold s more kept due editor)
   where
-    at : let later = fold after s more in StaysOrRises (edit_of editor s.edits) (edit_of editor later.edits) → edit_of editor later.edits ≡ edit_of editor s.edits
+    at : let later = fold after s more in StaysOrRises (last_edit editor s.edits) (last_edit editor later.edits) → last_edit editor later.edits ≡ last_edit editor s.edits
     at (inl same) = same
     at (inr up) = (
         let later = fold after s more in
-        absurd (omega (arith, up, complete_edit (edit_of editor s.edits) serial (edit_digest edit) first, complete_edit (edit_of editor later.edits) serial (edit_digest edit) second)))
+        absurd (omega (arith, up, complete_edit (last_edit editor s.edits) serial (edit_digest edit) first, complete_edit (last_edit editor later.edits) serial (edit_digest edit) second)))

@@ -10,7 +10,7 @@ use Rattle.batch_frame.specs.FrameFault.{file_of}
 use Rattle.error_files.specs.ErrorFile.{error_file}
 use Rattle.error_files.proofs.Fronts.{part_after}
 use Rattle.sequence_once.specs.declared.standing.Standing.TheVariants.{Complete}
-use Rattle.sequence_once.specs.SerialStanding.{EditRecord, edit_of}
+use Rattle.sequence_once.specs.SerialStanding.{EditRecord, last_edit}
 use Rattle.office_entry.specs.declared.edit.Edit.{Edit as GuideEdit}
 use Rattle.office_entry.specs.declared.entry.Entry.{Entry}
 use Rattle.office_state.specs.declared.limits.Limits.{Limits}
@@ -67,7 +67,7 @@ file_same s later bytes same =
     ap of_codes same
 
 -- and that to an edit on its editor's last one
-edit_same : (s later : State) (editor serial : ℕ) (edit : GuideEdit) → edit_of editor later.edits ≡ edit_of editor s.edits → job_reply later (Edit editor serial edit) ≡ job_reply s (Edit editor serial edit)
+edit_same : (s later : State) (editor serial : ℕ) (edit : GuideEdit) → last_edit editor later.edits ≡ last_edit editor s.edits → job_reply later (Edit editor serial edit) ≡ job_reply s (Edit editor serial edit)
 unfolding job_reply
 edit_same s later editor serial edit same = ap (λ (last : Option EditRecord). done_line (edit_done editor serial last) ++ []) same
 
@@ -86,4 +86,4 @@ complete_again limits history more (Edit editor serial edit) legal first second 
     let kept = kept_state limits history (due_first (empty_state limits) history more legal) in
     let due = due_rest (empty_state limits) history more legal in
     let again = subst (λ (s : State). edit_standing s editor serial edit ≡ Ok Complete) behind second in
-    edit_same old (state limits (history ++ more)) editor serial edit (ap (λ (s : State). edit_of editor s.edits) behind ∙ same_edit old more kept due editor serial edit first again)
+    edit_same old (state limits (history ++ more)) editor serial edit (ap (λ (s : State). last_edit editor s.edits) behind ∙ same_edit old more kept due editor serial edit first again)

@@ -11,7 +11,7 @@ use Rattle.batch_frame.specs.FrameFault.{frame_fault, file_of}
 use Rattle.batch_frame.proofs.Readings.{file_of_read}
 use Rattle.batch_frame.proofs.Records.{room}
 use Rattle.sequence_once.specs.KeptCycles.{IsSound}
-use Rattle.sequence_once.specs.SerialStanding.{edit_of}
+use Rattle.sequence_once.specs.SerialStanding.{last_edit}
 use Rattle.sequence_once.specs.declared.standing.Standing.{Standing}
 use Rattle.sequence_once.specs.declared.standing.Standing.TheVariants.{New, Resume, Complete}
 use Rattle.sequence_once.specs.declared.standing.CycleFault.{CycleFault}
@@ -120,7 +120,7 @@ edit_step s editor serial edit place e =
     let then_stands = after_edit s editor serial edit place.0 place.1 in
     record {
       left = ap (left_edit this) e ∙ ap (λ (entries : List Entry). this ∷ entries) (sym (ap (left_edit this) then_stands));
-      due = new_edit (edit_of editor s.edits) serial (edit_digest edit) e;
+      due = new_edit (last_edit editor s.edits) serial (edit_digest edit) e;
       standing = Complete;
       stands = then_stands;
     }
@@ -213,7 +213,7 @@ next_edit_standing this standing (Err f) once e = cc
 -- a job that has a standing is complete or has a next entry
 pub next_or_complete : (s : State) (job : Job) (standing : Standing) → job_standing s job ≡ Ok standing → (job_standing s job ≡ Ok Complete) ⊎ ((e : Entry) × (next_of s job ≡ Ok e))
 next_or_complete s (File bytes) standing e = next_by_standing bytes standing (file_standing s bytes) e
-next_or_complete s (Edit editor serial edit) standing e = next_edit_standing (entry.Edit editor serial edit) standing (edit_standing s editor serial edit) (not_resumed (edit_of editor s.edits) serial (edit_digest edit)) e
+next_or_complete s (Edit editor serial edit) standing e = next_edit_standing (entry.Edit editor serial edit) standing (edit_standing s editor serial edit) (not_resumed (last_edit editor s.edits) serial (edit_digest edit)) e
 
 -- entries that may be booked one after the other, and then the job is complete
 pub record IsCompleted (s : State) (job : Job) (entries : List Entry) : Type 0 where

@@ -1,6 +1,6 @@
 -- What is to be done with an editor's edit: its standing, and the entry that is left of it.
 use Rattle.std.specs.Prelude.{ℕ, List, [], ◌∷◌, Result, Ok, Err}
-use Rattle.sequence_once.specs.SerialStanding.{edit_of, serial_standing}
+use Rattle.sequence_once.specs.SerialStanding.{last_edit, serial_standing}
 use Rattle.sequence_once.specs.declared.standing.Standing.{Standing}
 use Rattle.sequence_once.specs.declared.standing.Standing.TheVariants.{New, Resume, Complete}
 use Rattle.sequence_once.specs.declared.standing.CycleFault.{CycleFault}
@@ -14,7 +14,7 @@ use Rattle.office_state.specs.Due.{standing_fault}
 
 -- what an edit is to the state: the standing of its serial and its digest. It is never resumed
 abbrev pub edit_standing : State → ℕ → ℕ → Edit → Result Standing CycleFault
-edit_standing s editor serial edit = serial_standing (edit_of editor s.edits) serial (edit_digest edit)
+edit_standing s editor serial edit = serial_standing (last_edit editor s.edits) serial (edit_digest edit)
 
 -- the entry of an edit, where it may be booked next
 abbrev pub next_edit : Entry → Result Standing CycleFault → Result Entry DueFault

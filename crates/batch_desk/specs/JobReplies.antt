@@ -3,7 +3,7 @@ use Rattle.std.specs.Prelude.{ℕ, ◌+◌, ◌==◌, not, List, [], ◌∷◌, 
 use Rattle.batch_frame.specs.FrameFault.{file_of}
 use Rattle.error_files.specs.ErrorFile.{error_file}
 use Rattle.sequence_once.specs.KeptCycles.{codes_of}
-use Rattle.sequence_once.specs.SerialStanding.{EditRecord, edit_of}
+use Rattle.sequence_once.specs.SerialStanding.{EditRecord, last_edit}
 use Rattle.sequence_once.specs.declared.standing.Standing.{Standing}
 use Rattle.sequence_once.specs.declared.standing.Standing.TheVariants.{New, Resume, Complete}
 use Rattle.sequence_once.specs.declared.standing.CycleFault.{CycleFault}
@@ -45,7 +45,7 @@ abbrev pub done_of : State → Job → JobDone
 done_of s (File bytes) =
     let file = file_of bytes in
     done.File (record { company = file.company; cycle = file.cycle; count = file.count; refused = count_by (λ code. not (code == 0)) (kept_codes s bytes) })
-done_of s (Edit editor serial edit) = edit_done editor serial (edit_of editor s.edits)
+done_of s (Edit editor serial edit) = edit_done editor serial (last_edit editor s.edits)
 
 -- what follows the line of a job that is complete: of a file, its error file by the codes that are kept for its cycle, with its length before it and the end of a line behind it
 abbrev pub done_block : State → Job → List ℕ

@@ -9,7 +9,7 @@ ghost use Rattle.error_files.specs.TextPuts.{PutsText};
 ghost use Rattle.sequence_once.specs.KeptCycles.{IsSound, count_of};
 ghost use Rattle.sequence_once.specs.CycleStanding.{standing_of};
 ghost use Rattle.sequence_once.specs.declared.standing.Standing.TheVariants.{Complete};
-ghost use Rattle.sequence_once.specs.SerialStanding.{edit_of};
+ghost use Rattle.sequence_once.specs.SerialStanding.{last_edit};
 ghost use Rattle.office_entry.specs.declared.entry.Entry.{Entry as AnyEntry};
 ghost use Rattle.office_state.specs.Due.{IsDue};
 ghost use Rattle.batch_desk.specs.EditJobs.{edit_standing, next_edit};
@@ -226,7 +226,7 @@ fn read_of_file(office: &Office, job: &FileJob) -> FileRead
 
 // What is told of a complete edit.
 fn done_of_edit(office: &Office, editor: Editor, serial: Serial) -> EditDone
-    ensures { JobDone.Edit result ≡ edit_done editor serial (edit_of editor office.now.state.edits) }
+    ensures { JobDone.Edit result ≡ edit_done editor serial (last_edit editor office.now.state.edits) }
 {
     let (code, detail) = match office.edit_kept(editor) {
         Some((_, verdict)) => (verdict.code, verdict.detail),

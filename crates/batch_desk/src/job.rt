@@ -5,7 +5,7 @@ ghost use Rattle.batch_frame.specs.FrameFault.{frame_fault, file_of, IsRead};
 ghost use Rattle.batch_frame.specs.Told.{frame_of};
 
 use ali_base::{Editor, Serial};
-use batch_frame::{FileView, Frame, FrameFault, read_file};
+use batch_frame::{FileFrame, FileView, FrameFault, read_file};
 use office_entry::Edit;
 use sequence_once::digest;
 use std::marker::Model;
@@ -28,7 +28,7 @@ pub enum Job {
 #[derive(Drop)]
 pub struct FileJob {
     bytes: Vec<u8>,
-    frame: Frame,
+    frame: FileFrame,
     digest: [u8; 32],
 }
 
@@ -80,7 +80,7 @@ impl FileJob {
     }
 
     /// The job of a file's bytes that were read, with what they told and their digest.
-    pub(crate) fn of_file(bytes: Vec<u8>, frame: Frame, digest: [u8; 32]) -> FileJob
+    pub(crate) fn of_file(bytes: Vec<u8>, frame: FileFrame, digest: [u8; 32]) -> FileJob
         requires framed { frame_fault bytes.items ≡ None }
         requires told { frame ≡ frame_of (file_of bytes.items) }
         requires digest { digest ≡ sha256 bytes.items }

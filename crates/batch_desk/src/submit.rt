@@ -10,7 +10,7 @@ ghost use Rattle.batch_desk.specs.EditJobs.{edit_standing};
 use crate::desk::view_standing;
 use crate::job::{FileJob, Job};
 use ali_base::{Editor, Serial};
-use batch_frame::{Frame, FrameFault, read_file};
+use batch_frame::{FileFrame, FrameFault, read_file};
 use office_entry::Edit;
 use office_state::{DueFault, Office};
 use sequence_once::digest;
@@ -74,7 +74,7 @@ pub fn submit_edit(
 // What a file that becomes a job told, and its digest.
 #[derive(Clone, Copy)]
 struct JudgedFile {
-    frame: Frame,
+    frame: FileFrame,
     digest: [u8; 32],
 }
 

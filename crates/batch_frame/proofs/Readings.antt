@@ -17,7 +17,7 @@ use Rattle.batch_frame.specs.declared.separator.Separator.TheVariants.{Bare, Lf,
 use Rattle.batch_frame.specs.CarrierFile.{CarrierFile, IsFile, Spells, IsRecord, LooksSeparated, separator_bytes, separator_of, separated, piece_size, record_count, record_at, records_in, all_records, file_in}
 use Rattle.batch_frame.specs.FrameFault.{IsRead, AreSound, is_whole, length_fault, too_many_fault, found, header_of, trailer_of, header_fault, trailer_fault, company_fault, count_fault, frame_fault, file_of, first_day}
 use Rattle.batch_frame.specs.Told.{frame_of}
-use Rattle.batch_frame.specs.declared.file.Frame.{Frame}
+use Rattle.batch_frame.specs.declared.file.FileFrame.{FileFrame}
 use Rattle.batch_frame.proofs.Cutting.{Followed, drop_none, records_in-get, separated-length, followed_separated}
 use Rattle.batch_frame.proofs.Faults.{if_none, no_fault, none_at_all, no_separator_fault}
 use Rattle.batch_frame.proofs.Records.{parts, counted, below, full_count, inside, some_piece, sized, spelled_sizes, found_few, told}
@@ -244,6 +244,6 @@ pub is_file_of : (bytes : List ℕ) (file : CarrierFile) → IsRead bytes file �
 is_file_of bytes file f = one_whole_file bytes file (file_of bytes) f (file_of_read bytes f.sound)
 
 -- what a file told when it was read gives the file again
-pub told_again : (bytes : List ℕ) (frame : Frame) → frame ≡ frame_of (file_of bytes) → file_in bytes frame.separator frame.count frame.company frame.cycle frame.day ≡ file_of bytes
+pub told_again : (bytes : List ℕ) (frame : FileFrame) → frame ≡ frame_of (file_of bytes) → file_in bytes frame.separator frame.count frame.company frame.cycle frame.day ≡ file_of bytes
 unfolding file_of
-told_again bytes frame told = ap (λ (f : Frame). file_in bytes f.separator f.count f.company f.cycle f.day) told
+told_again bytes frame told = ap (λ (f : FileFrame). file_in bytes f.separator f.count f.company f.cycle f.day) told

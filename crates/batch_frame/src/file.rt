@@ -13,7 +13,7 @@ use std::marker::Model;
 /// What a file told when it was read. With it the file's parts are lent again, and its frame is not read
 /// a second time.
 #[derive(Clone, Copy, Debug, PartialEq, Eq)]
-pub struct Frame {
+pub struct FileFrame {
     pub separator: Separator,
     pub company: Company,
     pub cycle: Cycle,
@@ -46,7 +46,7 @@ impl<'a> Model for FileView<'a> {
 
 impl<'a> FileView<'a> {
     /// The parts of a file that was read before, and what it told then.
-    pub fn again(bytes: &'a [u8], frame: Frame) -> Self
+    pub fn again(bytes: &'a [u8], frame: FileFrame) -> Self
         requires framed { frame_fault bytes.now ≡ None }
         requires told { frame ≡ frame_of (file_of bytes.now) }
         ensures value { result ≡ file_of bytes.now }
@@ -63,10 +63,10 @@ impl<'a> FileView<'a> {
     }
 
     /// What the file told when it was read.
-    pub fn frame(&self) -> Frame
+    pub fn frame(&self) -> FileFrame
         ensures { result ≡ frame_of self.now }
     {
-        Frame {
+        FileFrame {
             separator: self.separator,
             company: self.company,
             cycle: self.cycle,

@@ -55,13 +55,13 @@ add_verdict g key low high parity esn =
     unless_overlap (least_overlap g.ranges (new_range g.next key low high parity esn) None) (new_id g))
 
 -- the number that the digits of a telephone number spell
-abbrev pub number_of : List ℕ → ℕ
-number_of tn = unwrap_or (digits_number tn) 0
+abbrev pub tn_number : List ℕ → ℕ
+tn_number tn = unwrap_or (digits_number tn) 0
 
 -- 504 with the least number of a row that the range holds; 0 where it holds none
 abbrev pub unused : Option (List ℕ) → EditVerdict
 unused None = done 0
-unused (Some tn) = verdict_of 504 (number_of tn)
+unused (Some tn) = verdict_of 504 (tn_number tn)
 
 -- RETIRE: 501 no such range, 504 in use
 abbrev pub retire_verdict : StreetGuide → NumberTable → ℕ → EditVerdict

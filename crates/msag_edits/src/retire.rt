@@ -4,7 +4,7 @@ ghost use Rattle.msag_edits.specs.EditRules.{retire_verdict, retire_act};
 
 use crate::edit_verdict::EditVerdict;
 use crate::live_range::live_range;
-use crate::telephone::detail_of;
+use crate::telephone::tn_number;
 use msag_ranges::Guide;
 use number_table::RowMover;
 
@@ -20,7 +20,7 @@ pub(crate) fn retire<R: RowMover>(guide: &mut Guide, rows: &R, id: u32) -> EditV
     if let Some(tn) = rows.least_held(&range) {
         return EditVerdict {
             code: 504,
-            detail: detail_of(tn),
+            detail: tn_number(tn),
         };
     }
     guide.remove(id);

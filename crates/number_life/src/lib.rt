@@ -2,16 +2,14 @@
 #![tactic(auto)]
 
 mod act;
-mod function;
 mod life;
+mod number_standing;
 mod row;
-mod standing;
 
 pub use act::LifeAct;
-pub use function::Function;
 pub use life::judge;
+pub use number_standing::NumberStanding;
 pub use row::Row;
-pub use standing::Standing;
 
 #[cfg(test)]
 mod tests;

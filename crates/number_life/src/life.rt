@@ -5,11 +5,10 @@ ghost use Rattle.ali_base.specs.CivilDay.{CivilDay};
 ghost use Rattle.number_life.specs.NumberLife.{life, life_of};
 
 use crate::act::LifeAct;
-use crate::function::Function;
+use crate::number_standing::NumberStanding;
 use crate::row::Row;
-use crate::standing::Standing;
 use ali_base::Day;
-use ali_record::{Field, Record};
+use ali_record::{Field, Function, Record};
 
 /// What a record does to its number, which has this row or none; or the code of its refusal.
 ///
@@ -26,12 +25,12 @@ use ali_record::{Field, Record};
 pub fn judge(current: Option<&Row>, rec: &Record) -> Result<LifeAct, u16>
     ensures { result ≡ life_of (option_copied current.entry) rec.now }
 {
-    let standing = Standing::of(current, rec.field(Field::Company));
+    let standing = NumberStanding::of(current, rec.field(Field::Company));
     life(Function::of(rec.function()), standing, rec.day())
 }
 
 // The table.
-fn life(function: Function, standing: Standing, day: Day) -> Result<LifeAct, u16>
+fn life(function: Function, standing: NumberStanding, day: Day) -> Result<LifeAct, u16>
     ensures { result ≡ life function standing day }
 {
     match function {
@@ -43,57 +42,56 @@ fn life(function: Function, standing: Standing, day: Day) -> Result<LifeAct, u16
     }
 }
 
-fn insert(standing: Standing) -> Result<LifeAct, u16>
+fn insert(standing: NumberStanding) -> Result<LifeAct, u16>
     ensures { (day : CivilDay) → result ≡ life Function.Insert standing day }
 {
     match standing {
-        Standing::Absent => Ok(LifeAct::Store),
-        Standing::OwnLocked | Standing::OwnUnlocked => Err(301),
-        Standing::OthersLocked | Standing::OthersUnlocked => Err(302),
+        NumberStanding::Absent => Ok(LifeAct::Store),
+        NumberStanding::OwnLocked | NumberStanding::OwnUnlocked => Err(301),
+        NumberStanding::OthersLocked | NumberStanding::OthersUnlocked => Err(302),
     }
 }
 
-fn change(standing: Standing) -> Result<LifeAct, u16>
+fn change(standing: NumberStanding) -> Result<LifeAct, u16>
     ensures { (day : CivilDay) → result ≡ life Function.Change standing day }
 {
     match standing {
-        Standing::Absent => Err(303),
-        Standing::OwnLocked => Ok(LifeAct::Store),
-        Standing::OwnUnlocked => Err(313),
-        Standing::OthersLocked | Standing::OthersUnlocked => Err(304),
+        NumberStanding::Absent => Err(303),
+        NumberStanding::OwnLocked => Ok(LifeAct::Store),
+        NumberStanding::OwnUnlocked => Err(313),
+        NumberStanding::OthersLocked | NumberStanding::OthersUnlocked => Err(304),
     }
 }
 
-fn delete(standing: Standing) -> Result<LifeAct, u16>
+fn delete(standing: NumberStanding) -> Result<LifeAct, u16>
     ensures { (day : CivilDay) → result ≡ life Function.Delete standing day }
 {
     match standing {
-        Standing::Absent => Err(305),
-        Standing::OwnLocked => Ok(LifeAct::Remove),
-        Standing::OwnUnlocked => Err(313),
-        Standing::OthersLocked | Standing::OthersUnlocked => Err(306),
+        NumberStanding::Absent => Err(305),
+        NumberStanding::OwnLocked => Ok(LifeAct::Remove),
+        NumberStanding::OwnUnlocked => Err(313),
+        NumberStanding::OthersLocked | NumberStanding::OthersUnlocked => Err(306),
     }
 }
 
-fn unlock(standing: Standing, day: Day) -> Result<LifeAct, u16>
+fn unlock(standing: NumberStanding, day: Day) -> Result<LifeAct, u16>
     ensures { result ≡ life Function.Unlock standing day }
 {
     match standing {
-        Standing::Absent => Err(307),
-        Standing::OwnLocked => Ok(LifeAct::Unlock(day)),
-        Standing::OwnUnlocked => Err(309),
-        Standing::OthersLocked | Standing::OthersUnlocked => Err(308),
+        NumberStanding::Absent => Err(307),
+        NumberStanding::OwnLocked => Ok(LifeAct::Unlock(day)),
+        NumberStanding::OwnUnlocked => Err(309),
+        NumberStanding::OthersLocked | NumberStanding::OthersUnlocked => Err(308),
     }
 }
 
-fn migrate(standing: Standing) -> Result<LifeAct, u16>
+fn migrate(standing: NumberStanding) -> Result<LifeAct, u16>
     ensures { (day : CivilDay) → result ≡ life Function.Migrate standing day }
 {
     match standing {
-        Standing::Absent => Err(310),
-        Standing::OwnLocked | Standing::OwnUnlocked | Standing::OthersUnlocked => Ok(
-            LifeAct::Store,
-        ),
-        Standing::OthersLocked => Err(311),
+        NumberStanding::Absent => Err(310),
+        NumberStanding::OwnLocked | NumberStanding::OwnUnlocked | NumberStanding::OthersUnlocked =>
+            Ok(LifeAct::Store),
+        NumberStanding::OthersLocked => Err(311),
     }
 }

@@ -1,7 +1,7 @@
 //! The life table, cell by cell, against answers that were written down apart from it.
 ghost use Rattle.std.specs.Prelude.{◌+◌, ◌≤◌, length};
 
-use crate::{LifeAct, Row, Standing, judge};
+use crate::{LifeAct, NumberStanding, Row, judge};
 use ali_base::{Company, Day};
 use ali_record::{Record, read_record};
 
@@ -25,25 +25,25 @@ fn record(function: u8, company: &[u8; 5]) -> Option<Record> {
 }
 
 // The row of the number where it stands so for ABC01.
-fn row(standing: Standing) -> Option<Row> {
+fn row(standing: NumberStanding) -> Option<Row> {
     let own = record(b'I', b"ABC01")?;
     let others = record(b'I', b"XYZ02")?;
     let day = Day::read(b"123123");
     match standing {
-        Standing::Absent => None,
-        Standing::OwnLocked => Some(Row {
+        NumberStanding::Absent => None,
+        NumberStanding::OwnLocked => Some(Row {
             rec: own,
             unlocked: None,
         }),
-        Standing::OwnUnlocked => Some(Row {
+        NumberStanding::OwnUnlocked => Some(Row {
             rec: own,
             unlocked: day,
         }),
-        Standing::OthersLocked => Some(Row {
+        NumberStanding::OthersLocked => Some(Row {
             rec: others,
             unlocked: None,
         }),
-        Standing::OthersUnlocked => Some(Row {
+        NumberStanding::OthersUnlocked => Some(Row {
             rec: others,
             unlocked: day,
         }),
@@ -51,17 +51,17 @@ fn row(standing: Standing) -> Option<Row> {
 }
 
 // What a record of ABC01 does to a number that stands so.
-fn judged(function: u8, standing: Standing) -> Option<Result<LifeAct, u16>> {
+fn judged(function: u8, standing: NumberStanding) -> Option<Result<LifeAct, u16>> {
     let sent = record(function, b"ABC01")?;
     Some(judge(row(standing).as_ref(), &sent))
 }
 
-const STANDINGS: [Standing; 5] = [
-    Standing::Absent,
-    Standing::OwnLocked,
-    Standing::OwnUnlocked,
-    Standing::OthersLocked,
-    Standing::OthersUnlocked,
+const STANDINGS: [NumberStanding; 5] = [
+    NumberStanding::Absent,
+    NumberStanding::OwnLocked,
+    NumberStanding::OwnUnlocked,
+    NumberStanding::OthersLocked,
+    NumberStanding::OthersUnlocked,
 ];
 
 const STORED: Result<LifeAct, u16> = Ok(LifeAct::Store);

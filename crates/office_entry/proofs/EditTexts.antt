@@ -15,7 +15,7 @@ use Rattle.office_entry.specs.EditText.{StreetTexts, AreStreetTexts, key_of, str
 use Rattle.text_line.specs.WordReading.{number_of, split_once}
 use Rattle.text_line.proofs.NumberTexts.{number_of-decimal, decimal-number_of}
 use Rattle.text_line.proofs.Splits.{Clear, split_again, split_is, decimal_clear}
-use Rattle.office_entry.specs.EditReading.{small_of, difference_of, street_at, add_of, retire_of, split_of, renumber_of, set_esn_of, by_word, edit_of}
+use Rattle.office_entry.specs.EditReading.{small_of, difference_of, street_at, add_of, retire_of, split_of, renumber_of, set_esn_of, by_word, edit_of_text}
 use Rattle.ali_base.proofs.Steps.{bind_ok, bind_some, some_is}
 use Rattle.office_entry.proofs.Options.{when_true, choose}
 use Rattle.office_entry.proofs.NumberTexts.{small-small_of, small_of-decimal, difference-difference_of, difference_of-text}
@@ -133,8 +133,8 @@ word_read word rest e h =
       ])
     ]
 
-pub text_read : (bytes : List ℕ) (e : Edit) → edit_of bytes ≡ Some e → IsEditText bytes e
-unfolding edit_of
+pub text_read : (bytes : List ℕ) (e : Edit) → edit_of_text bytes ≡ Some e → IsEditText bytes e
+unfolding edit_of_text
 text_read bytes e h =
     let a = bind_ok (split_once 32 bytes) _ e h in
     subst (λ (z : List ℕ). IsEditText z e) (sym (split_is 32 bytes a.0 a.1)) (word_read a.0.0 a.0.1 e a.2)
@@ -160,18 +160,18 @@ add_again key texts low high parity esn sent named h =
     (bind_some _ _ _ _ (parity_of-parity parity)
     (bind_some _ _ _ _ (small_of-decimal esn h.number) (ap (λ (z : StreetKey). Some (Add z low high parity esn)) (sym named))))))))))
 
-again : (e : Edit) (bytes : List ℕ) → IsEdit e → Spells bytes e → edit_of bytes ≡ Some e
-unfolding edit_of retire_of split_of renumber_of set_esn_of
+again : (e : Edit) (bytes : List ℕ) → IsEdit e → Spells bytes e → edit_of_text bytes ≡ Some e
+unfolding edit_of_text retire_of split_of renumber_of set_esn_of
 again (Add key low high parity esn) bytes h s =
-    ap edit_of s.spelled
+    ap edit_of_text s.spelled
     ∙ bind_some _ _ _ _ (split_again 32 (codes "ADD") (street_text s.texts (decimal low ++ 124 ∷ (decimal high ++ 124 ∷ (parity_text parity ++ 124 ∷ decimal esn)))) (refl, (refl, (refl, tt))))
     (add_again key s.texts low high parity esn s.lawful s.named h)
 again (Retire id) bytes h s =
-    ap edit_of s
+    ap edit_of_text s
     ∙ bind_some _ _ _ _ (split_again 32 (codes "RETIRE") (decimal id) (refl, (refl, (refl, (refl, (refl, (refl, tt)))))))
     (bind_some _ _ _ _ (number_of-decimal id h) refl)
 again (Split id at esn) bytes h s =
-    ap edit_of s
+    ap edit_of_text s
     ∙ bind_some _ _ _ _ (split_again 32 (codes "SPLIT") (decimal id ++ 32 ∷ (decimal at ++ 32 ∷ decimal esn)) (refl, (refl, (refl, (refl, (refl, tt))))))
     (bind_some _ _ _ _ (split_again 32 (decimal id) (decimal at ++ 32 ∷ decimal esn) (decimal_clear 32 refl id h.range))
     (bind_some _ _ _ _ (split_again 32 (decimal at) (decimal esn) (decimal_clear 32 refl at (omega (arith, h.place))))
@@ -179,19 +179,19 @@ again (Split id at esn) bytes h s =
     (bind_some _ _ _ _ (small_of-decimal at h.place)
     (bind_some _ _ _ _ (small_of-decimal esn h.number) refl)))))
 again (Renumber id by) bytes h s =
-    ap edit_of s
+    ap edit_of_text s
     ∙ bind_some _ _ _ _ (split_again 32 (codes "RENUMBER") (decimal id ++ 32 ∷ difference_text by) (refl, (refl, (refl, (refl, (refl, (refl, (refl, (refl, tt)))))))))
     (bind_some _ _ _ _ (split_again 32 (decimal id) (difference_text by) (decimal_clear 32 refl id h.0))
     (bind_some _ _ _ _ (number_of-decimal id h.0)
     (bind_some _ _ _ _ (difference_of-text by h.1) refl)))
 again (SetEsn id esn) bytes h s =
-    ap edit_of s
+    ap edit_of_text s
     ∙ bind_some _ _ _ _ (split_again 32 (codes "SETESN") (decimal id ++ 32 ∷ decimal esn) (refl, (refl, (refl, (refl, (refl, (refl, tt)))))))
     (bind_some _ _ _ _ (split_again 32 (decimal id) (decimal esn) (decimal_clear 32 refl id h.0))
     (bind_some _ _ _ _ (number_of-decimal id h.0)
     (bind_some _ _ _ _ (small_of-decimal esn h.1) refl)))
 
-pub text_again : (bytes : List ℕ) (e : Edit) → IsEditText bytes e → edit_of bytes ≡ Some e
+pub text_again : (bytes : List ℕ) (e : Edit) → IsEditText bytes e → edit_of_text bytes ≡ Some e
 text_again bytes e h = again e bytes h.lawful h.spelled
 
 pub one_edit : (bytes : List ℕ) (e f : Edit) → IsEditText bytes e → IsEditText bytes f → e ≡ f

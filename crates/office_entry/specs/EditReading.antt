@@ -94,7 +94,7 @@ by_word word rest =
     (if bytes_eq word (codes "SETESN") then set_esn_of rest else None))))
 
 -- the edit of a text
-unfoldable pub edit_of : List ℕ → Option Edit
-edit_of bytes = do
+unfoldable pub edit_of_text : List ℕ → Option Edit
+edit_of_text bytes = do
   word ← split_once 32 bytes
   by_word word.0 word.1

@@ -3,7 +3,7 @@ ghost use Rattle.std.specs.Prelude.{◌≡◌, ◌≤◌, length, take, drop, So
 ghost use Rattle.office_entry.specs.Edits.{IsEdit};
 ghost use Rattle.office_entry.specs.EditText.{IsEditText};
 ghost use Rattle.office_entry.specs.EditBytes.{edit_bytes, edit_digest};
-ghost use Rattle.office_entry.specs.EditReading.{edit_of};
+ghost use Rattle.office_entry.specs.EditReading.{edit_of_text};
 ghost use Rattle.office_entry.specs.BytesReading.{edit_from};
 
 use crate::difference::Difference;
@@ -11,7 +11,7 @@ use crate::edit_key::EditKey;
 use crate::esn_sent::EsnSent;
 use crate::fields::EditFields;
 use crate::reading::edit_from;
-use crate::text::edit_of;
+use crate::text::edit_of_text;
 use ali_base::{House, Parity};
 use sha2::{Digest, Sha256};
 
@@ -60,9 +60,9 @@ impl Edit {
         // What is spelled so is read.
         ensures only { (edit : AnyEdit) → IsEditText bytes.now edit → result ≡ Some edit }
         // The same by the reader.
-        ensures exact { result ≡ edit_of bytes.now }
+        ensures exact { result ≡ edit_of_text bytes.now }
     {
-        edit_of(bytes)
+        edit_of_text(bytes)
     }
 
     /// Writes its bytes at the front of `out`, and answers how many they are.

@@ -4,12 +4,12 @@ ghost use Rattle.office_entry.specs.declared.edit.Edit.{Edit};
 ghost use Rattle.office_entry.specs.Edits.{IsEdit};
 ghost use Rattle.office_entry.specs.EditText.{IsEditText};
 ghost use Rattle.office_entry.specs.EditBytes.{edit_bytes};
-ghost use Rattle.office_entry.specs.EditReading.{edit_of};
+ghost use Rattle.office_entry.specs.EditReading.{edit_of_text};
 ghost use Rattle.office_entry.specs.BytesReading.{edit_from};
 
 /// What is read as an edit's text is spelled so, and what is spelled so is read.
 pub fn texts_are_read_as_spelled()
-    ensures { (bytes : List ℕ) (edit : Edit) → (edit_of bytes ≡ Some edit) ↔ IsEditText bytes edit }
+    ensures { (bytes : List ℕ) (edit : Edit) → (edit_of_text bytes ≡ Some edit) ↔ IsEditText bytes edit }
 {}
 
 /// A text is the text of one edit.

@@ -1,6 +1,6 @@
 //! Reading the text of an edit.
 ghost use Rattle.std.specs.Prelude.{◌≡◌, ◌≤◌, length, option_map, IfSome};
-ghost use Rattle.office_entry.specs.EditReading.{small_of, difference_of, field_at, street_at, add_of, retire_of, split_of, renumber_of, set_esn_of, edit_of};
+ghost use Rattle.office_entry.specs.EditReading.{small_of, difference_of, field_at, street_at, add_of, retire_of, split_of, renumber_of, set_esn_of, edit_of_text};
 
 use crate::difference::Difference;
 use crate::edit::Edit;
@@ -134,9 +134,9 @@ fn set_esn_of(bytes: &[u8]) -> Option<Edit>
 }
 
 /// The edit of a text.
-#[tactic(auto, unfolding(crate::specs::EditReading::edit_of))]
-pub(crate) fn edit_of(bytes: &[u8]) -> Option<Edit>
-    ensures { result ≡ edit_of bytes.now }
+#[tactic(auto, unfolding(crate::specs::EditReading::edit_of_text))]
+pub(crate) fn edit_of_text(bytes: &[u8]) -> Option<Edit>
+    ensures { result ≡ edit_of_text bytes.now }
 {
     let (word, rest) = split_once(bytes, b' ')?;
     if word == b"ADD".as_slice() {

@@ -16,7 +16,7 @@ use Rattle.office_entry.specs.declared.edit.Edit.TheVariants.{Add, Retire, Split
 use Rattle.office_entry.specs.Differences.{magnitude}
 use Rattle.office_entry.specs.Edits.{IsEdit}
 use Rattle.office_entry.specs.EditText.{is_sent_byte, StreetTexts, AreStreetTexts, street_text, difference_text, Spells, IsEditText}
-use Rattle.office_entry.specs.EditReading.{edit_of}
+use Rattle.office_entry.specs.EditReading.{edit_of_text}
 use Rattle.office_entry.proofs.EditTexts.{text_read, text_again}
 use Rattle.office_run.specs.ScriptGrammar.{Command, Edit, edit_text}
 use Rattle.ali_base.proofs.Steps.{bind_ok}
@@ -143,7 +143,7 @@ text-edit_of_line line c h =
     let serial = bind_ok (split_once 32 editor.0.1) _ c editor.2 in
     let e = bind_ok (number_of editor.0.0) _ c serial.2 in
     let s = bind_ok (number_of serial.0.0) _ c e.2 in
-    let edit = bind_ok (edit_of serial.0.1) _ c s.2 in
+    let edit = bind_ok (edit_of_text serial.0.1) _ c s.2 in
     let is_word = bytes_eq word.0.0 (codes "EDIT") in
     let test = cond_some (is_word && nat_le 1 e.0 && nat_le e.0 64 && nat_le 1 s.0 && nat_le s.0 999_999_999) (Edit e.0 s.0 edit.0) c edit.2 in
     let s_high = and_parts (is_word && nat_le 1 e.0 && nat_le e.0 64 && nat_le 1 s.0) (nat_le s.0 999_999_999) test.0 in

@@ -4,7 +4,7 @@ use Rattle.std.specs.Str.{bytes_eq}
 use Rattle.ali_base.specs.Steps.{◌>>=◌, when}
 use Rattle.ali_base.specs.TelephoneNumber.{tn_of}
 use Rattle.text_line.specs.WordReading.{number_of, split_once}
-use Rattle.office_entry.specs.EditReading.{edit_of}
+use Rattle.office_entry.specs.EditReading.{edit_of_text}
 use Rattle.office_run.specs.ScriptGrammar.{Command, Ask, File, Edit, Next, Batch, file_limit}
 
 -- `ASK a position tn since`, without the end of its line
@@ -27,7 +27,7 @@ edit_of_line bytes = do
   serial ← split_once 32 editor.1
   e ← number_of editor.0
   s ← number_of serial.0
-  edit ← edit_of serial.1
+  edit ← edit_of_text serial.1
   when (bytes_eq word.0 (codes "EDIT") && nat_le 1 e && nat_le e 64 && nat_le 1 s && nat_le s 999_999_999) (Edit e s edit)
 
 -- a request, or else an edit

@@ -87,7 +87,7 @@ fn ask_or_edit<'a>(line: &[u8]) -> Option<Command<'a>>
 {
     match ask_of(line) {
         Some(ask) => Some(Command::Ask(ask)),
-        None => edit_of(line),
+        None => edit_of_line(line),
     }
 }
 
@@ -130,7 +130,7 @@ fn ask_of(line: &[u8]) -> Option<Ask>
 
 // `EDIT editor serial edit`
 #[tactic(auto, unfolding(crate::specs::ScriptReading::edit_of_line))]
-fn edit_of<'a>(line: &[u8]) -> Option<Command<'a>>
+fn edit_of_line<'a>(line: &[u8]) -> Option<Command<'a>>
     ensures edit { option_map command_of result ≡ edit_of_line line.now }
     ensures some { IfSome result (λ command. 0 < length line.now) }
 {

@@ -10,12 +10,13 @@ use Rattle.std.proofs.lemmas.Slice.Eq.{bytes_eq-Decides}
 use Rattle.ali_base.specs.CivilDay.{CivilDay, day_of}
 use Rattle.ali_record.specs.Layout.{field_of, byte_of}
 use Rattle.ali_record.specs.declared.field.Field.TheVariants as field
+use Rattle.ali_record.specs.Functions.{function_of}
+use Rattle.ali_record.specs.declared.function.Function.{Function}
+use Rattle.ali_record.specs.declared.function.Function.TheVariants as function
 use Rattle.number_life.specs.declared.act.LifeAct.{LifeAct}
 use Rattle.number_life.specs.declared.act.LifeAct.TheVariants.{Store, Remove, Unlock}
-use Rattle.number_life.specs.declared.function.Function.{Function}
-use Rattle.number_life.specs.declared.function.Function.TheVariants as function
 use Rattle.number_life.specs.declared.row.Row.{Row}
-use Rattle.number_life.specs.NumberLife.{life, life_of, function_of, others, owner, standing_of}
+use Rattle.number_life.specs.NumberLife.{life, life_of, others, owner, number_standing}
 use Rattle.office_state.specs.OfficeState.{State}
 use Rattle.office_state.specs.Verdict.{record_act, stored, table_after}
 use Rattle.office_state.proofs.RecordActs.{judged, read_tells}
@@ -39,7 +40,7 @@ only_migrates function.Migrate None day act h = absurd (cc h)
 only_migrates function.Migrate (Some d) day act h = (refl, refl, cc h)
 
 -- nothing but this is done to a row of another owner
-others_life : (found : Option Row) (unlocked : Option CivilDay) (bytes : List ℕ) (act : LifeAct) → standing_of found (field_of bytes field.Company) ≡ others unlocked
+others_life : (found : Option Row) (unlocked : Option CivilDay) (bytes : List ℕ) (act : LifeAct) → number_standing found (field_of bytes field.Company) ≡ others unlocked
     → life_of found bytes ≡ Ok act → Migrates unlocked (function_of (byte_of bytes field.Function)) act
 unfolding life_of
 others_life found unlocked bytes act other h = at (day_of (field_of bytes field.ExtractDate)) h
@@ -47,7 +48,7 @@ others_life found unlocked bytes act other h = at (day_of (field_of bytes field.
     f : Function
     f = function_of (byte_of bytes field.Function)
 
-    at : (day : Option CivilDay) → option_map_or (life f (standing_of found (field_of bytes field.Company))) day (Err 107) ≡ Ok act → Migrates unlocked f act
+    at : (day : Option CivilDay) → option_map_or (life f (number_standing found (field_of bytes field.Company))) day (Err 107) ≡ Ok act → Migrates unlocked f act
     at None h = absurd (cc h)
     at (Some day) h = only_migrates f unlocked day act (rw other at h)
 

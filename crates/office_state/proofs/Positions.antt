@@ -6,7 +6,7 @@ use Rattle.std.proofs.lemmas.List.Kept.{AllPairs-cons}
 use Rattle.ali_base.specs.CivilDay.{CivilDay}
 use Rattle.sequence_once.specs.KeptCycles.{CycleRecord, IsSound, newest, last_of}
 use Rattle.sequence_once.specs.CycleStanding.{last_number}
-use Rattle.sequence_once.specs.SerialStanding.{edit_of, last_serial}
+use Rattle.sequence_once.specs.SerialStanding.{last_edit, last_serial}
 use Rattle.sequence_once.proofs.Sound.{sound_empty}
 use Rattle.office_entry.specs.Entries.{IsEntry}
 use Rattle.office_entry.specs.declared.entry.Entry.{Entry}
@@ -36,7 +36,7 @@ IsBehind old new = IsAt new (last_number old) (noted old)
 abbrev IsPast : Entry → State → Type 0
 IsPast (Open company cycle count day digest) s = IsAt (last_of company s.cycles.kept) cycle 0
 IsPast (Line company cycle line bytes) s = IsAt (last_of company s.cycles.kept) cycle line
-IsPast (Edit editor serial edit) s = serial ≤ last_serial (edit_of editor s.edits)
+IsPast (Edit editor serial edit) s = serial ≤ last_serial (last_edit editor s.edits)
 
 behind_itself : (last : Option CycleRecord) → IsBehind last last
 behind_itself last = record { low = omega arith; within = λ e. omega arith }

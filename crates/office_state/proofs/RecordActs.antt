@@ -8,18 +8,13 @@ use Rattle.std.proofs.lemmas.List.{get_or_past}
 use Rattle.std.proofs.lemmas.Slice.Eq.{bytes_eq-Decides}
 use Rattle.ali_base.specs.HouseNumber.{house_of}
 use Rattle.ali_record.specs.Layout.{field_of, byte_of}
-use Rattle.ali_record.specs.RecordReading.{reading_code, conditions, first_code, is_function, sends_address}
+use Rattle.ali_record.specs.RecordReading.{reading_code, conditions, is_function, sends_address}
 use Rattle.ali_record.specs.declared.field.Field.TheVariants.{Function, TelephoneNumber, HouseNumber, Company}
+use Rattle.ali_record.proofs.Accepted.{read-none}
 use Rattle.number_life.specs.declared.act.LifeAct.{LifeAct}
 use Rattle.number_life.specs.NumberLife.{life_of}
 use Rattle.office_state.specs.OfficeState.{State}
 use Rattle.office_state.specs.Verdict.{record_act, address_fault, where_placed, within_limit}
-
--- where the code is 0, none of the conditions holds
-none_holds : (cs : List (Bool × ℕ)) → list_all (λ c. nat_lt 0 c.1) cs ≡ true → first_code cs ≡ 0 → AllByRecursion (λ c. c.0 ≡ false) cs
-none_holds [] positive h = tt
-none_holds ((true, n) ∷ cs) positive h = absurd (grind (arith, nat_tests))
-none_holds ((false, n) ∷ cs) positive h = (refl, none_holds cs (grind (arith, nat_tests)) h)
 
 -- column 512 is there where it has the end mark
 long_enough : (bytes : List ℕ) → get_or bytes 511 0 ≡ 42 → 512 ≤ length bytes
@@ -44,9 +39,9 @@ pub record IsRead (company bytes : List ℕ) : Type 0 where
 
 -- what reading says of a record with code 0
 pub read_tells : (company bytes : List ℕ) → reading_code company bytes ≡ 0 → IsRead company bytes
-unfolding reading_code conditions
+unfolding conditions
 read_tells company bytes h =
-    let none = none_holds (conditions company bytes) refl h in
+    let none = read-none company bytes h in
     record {
       of_company = (bytes_eq-Decides (field_of bytes Company) company).0 (not-false _ none.1.1.1.1.0);
       long = long_enough bytes (let mark : (get_or bytes 511 0 == 42) ≡ true = not-false _ none.0 in grind (arith, nat_tests));

@@ -6,13 +6,14 @@ use Rattle.std.proofs.lemmas.Bool.Decides.{nat_tests}
 use Rattle.ali_base.specs.CivilDay.{CivilDay, day_of}
 use Rattle.ali_record.specs.Layout.{field_of, byte_of}
 use Rattle.ali_record.specs.declared.field.Field.TheVariants as field
+use Rattle.ali_record.specs.Functions.{function_of}
+use Rattle.ali_record.specs.declared.function.Function.{Function}
+use Rattle.ali_record.specs.declared.function.Function.TheVariants as function
 use Rattle.number_life.specs.declared.act.LifeAct.{LifeAct}
 use Rattle.number_life.specs.declared.act.LifeAct.TheVariants.{Store, Remove, Unlock}
-use Rattle.number_life.specs.declared.function.Function.{Function}
-use Rattle.number_life.specs.declared.function.Function.TheVariants as function
-use Rattle.number_life.specs.declared.standing.Standing.TheVariants.{Absent}
+use Rattle.number_life.specs.declared.number_standing.NumberStanding.TheVariants.{Absent}
 use Rattle.number_life.specs.declared.row.Row.{Row}
-use Rattle.number_life.specs.NumberLife.{life, life_of, function_of}
+use Rattle.number_life.specs.NumberLife.{life, life_of}
 use Rattle.number_table.specs.NumberTable.{NumberTable}
 use Rattle.office_state.specs.Rooms.{HasRoom}
 

@@ -11,16 +11,17 @@ use Rattle.msag_ranges.specs.declared.range.Range.{Range}
 use Rattle.ali_record.specs.Layout.{field_of, byte_of}
 use Rattle.ali_record.specs.RecordReading.{is_function, sends_address}
 use Rattle.ali_record.specs.declared.field.Field.TheVariants as field
+use Rattle.ali_record.specs.Functions.{function_of}
+use Rattle.ali_record.specs.declared.function.Function.TheVariants as function
 use Rattle.msag_edits.specs.Edits.{edit_verdict, edit_act}
 use Rattle.msag_edits.specs.GuideSoundness.{IsPlaced, ArePlaced, AreSound}
 use Rattle.msag_edits.proofs.Soundness.{placed-kept, sound-from}
 use Rattle.number_life.specs.declared.act.LifeAct.{LifeAct}
 use Rattle.number_life.specs.declared.act.LifeAct.TheVariants.{Store, Remove, Unlock}
-use Rattle.number_life.specs.declared.function.Function.TheVariants as function
-use Rattle.number_life.specs.declared.standing.Standing.{Standing}
-use Rattle.number_life.specs.declared.standing.Standing.TheVariants.{Absent}
+use Rattle.number_life.specs.declared.number_standing.NumberStanding.{NumberStanding}
+use Rattle.number_life.specs.declared.number_standing.NumberStanding.TheVariants.{Absent}
 use Rattle.number_life.specs.declared.row.Row.{Row}
-use Rattle.number_life.specs.NumberLife.{life, life_of, function_of, standing_of}
+use Rattle.number_life.specs.NumberLife.{life, life_of, number_standing}
 use Rattle.number_table.specs.NumberTable.{NumberTable, tn_cmp}
 use Rattle.number_table.specs.HeldRows.{changed}
 use Rattle.number_table.proofs.ChangedRows.{get-changed}
@@ -34,16 +35,16 @@ use Rattle.office_state.proofs.StoredRecords.{HaveFiveDigits, stored-size, store
 
 -- ---- what is stored was sent with an address
 
-deletes_none : (standing : Standing) (day : CivilDay) → life function.Delete standing day ≡ Ok Store → ⊥
+deletes_none : (standing : NumberStanding) (day : CivilDay) → life function.Delete standing day ≡ Ok Store → ⊥
 deletes_none Absent day h = cc
 deletes_none _ day h = cc
 
-unlocks_none : (standing : Standing) (day : CivilDay) → life function.Unlock standing day ≡ Ok Store → ⊥
+unlocks_none : (standing : NumberStanding) (day : CivilDay) → life function.Unlock standing day ≡ Ok Store → ⊥
 unlocks_none Absent day h = cc
 unlocks_none _ day h = cc
 
 -- the tests of the letters I, C, D, U and M
-by_letter : (i c d u m : Bool) (standing : Standing) (day : CivilDay) → (i || c || d || u || m) ≡ true
+by_letter : (i c d u m : Bool) (standing : NumberStanding) (day : CivilDay) → (i || c || d || u || m) ≡ true
     → life (cond i function.Insert (cond c function.Change (cond d function.Delete (cond u function.Unlock function.Migrate)))) standing day ≡ Ok Store → (i || c || m) ≡ true
 by_letter true c d u m standing day one h = refl
 by_letter false true d u m standing day one h = refl
@@ -58,8 +59,8 @@ store_sends found bytes one h = by_day (day_of (field_of bytes field.ExtractDate
     byte : ℕ
     byte = byte_of bytes field.Function
 
-    standing : Standing
-    standing = standing_of found (field_of bytes field.Company)
+    standing : NumberStanding
+    standing = number_standing found (field_of bytes field.Company)
 
     by_day : (day : Option CivilDay) → option_map_or (life (function_of byte) standing) day (Err 107) ≡ Ok Store → sends_address byte ≡ true
     by_day None h = absurd cc

@@ -10,7 +10,7 @@ use Rattle.ali_base.specs.CivilDay.{CivilDay}
 use Rattle.ali_base.specs.Editors.{IsEditor}
 use Rattle.sequence_once.specs.KeptCycles.{CycleRecord, CyclesState, IsSound, of_company, last_of, is_finished, is_last_finished, opened}
 use Rattle.sequence_once.specs.CycleStanding.{last_number, standing_of}
-use Rattle.sequence_once.specs.SerialStanding.{EditRecord, edit_of, last_serial}
+use Rattle.sequence_once.specs.SerialStanding.{EditRecord, last_edit, last_serial}
 use Rattle.sequence_once.specs.declared.standing.Standing.TheVariants.{New}
 use Rattle.sequence_once.proofs.Order.{by_bytes, same_company}
 use Rattle.sequence_once.proofs.Sound.{new_means, sound_opened, sound_noted}
@@ -109,7 +109,7 @@ editors_after s (Line company cycle line bytes) = refl
 editors_after s (Edit editor serial edit) = length-set s.edits (editor - 1) _
 
 -- the serial of an edit is its editor's last
-pub serial_noted : (s : State) (editor serial : ℕ) (edit : GuideEdit) → length s.edits ≡ 64 → IsEditor editor → let later = after s (Edit editor serial edit) in last_serial (edit_of editor later.edits) ≡ serial
+pub serial_noted : (s : State) (editor serial : ℕ) (edit : GuideEdit) → length s.edits ≡ 64 → IsEditor editor → let later = after s (Edit editor serial edit) in last_serial (last_edit editor later.edits) ≡ serial
 unfolding after
 serial_noted s editor serial edit editors within =
     let place : editor - 1 < length s.edits = omega (arith, editors, within.0, within.1) in
@@ -119,7 +119,7 @@ rises : (edits : List (Option EditRecord)) (i j : ℕ) (e : EditRecord) → last
 rises edits i j e up within = grind (arith, get_or-set_at, get_or-set_other)
 
 -- no editor's last serial falls
-pub serials_rise : (s : State) (e : Entry) → length s.edits ≡ 64 → IsEntry e → IsDue s e → (editor : ℕ) → let later = after s e in last_serial (edit_of editor s.edits) ≤ last_serial (edit_of editor later.edits)
+pub serials_rise : (s : State) (e : Entry) → length s.edits ≡ 64 → IsEntry e → IsDue s e → (editor : ℕ) → let later = after s e in last_serial (last_edit editor s.edits) ≤ last_serial (last_edit editor later.edits)
 unfolding after
 serials_rise s (Open company cycle count day digest) editors entry due editor = omega arith
 serials_rise s (Line company cycle line bytes) editors entry due editor = omega arith

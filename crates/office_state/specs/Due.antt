@@ -2,7 +2,7 @@
 use Rattle.std.specs.Prelude.{◌≡◌, ℕ, ◌+◌, ◌==◌, ◌&&◌, nat_lt, List, length, Option, Some, None, Result, Ok, Err, if◌then◌else◌}
 use Rattle.sequence_once.specs.KeptCycles.{CycleRecord, last_of}
 use Rattle.sequence_once.specs.CycleStanding.{standing_of}
-use Rattle.sequence_once.specs.SerialStanding.{edit_of, last_serial, serial_standing}
+use Rattle.sequence_once.specs.SerialStanding.{last_edit, last_serial, serial_standing}
 use Rattle.sequence_once.specs.declared.standing.Standing.{Standing}
 use Rattle.sequence_once.specs.declared.standing.Standing.TheVariants.{New, Resume, Complete}
 use Rattle.sequence_once.specs.declared.standing.CycleFault.{CycleFault}
@@ -30,7 +30,7 @@ due_line s company = line_of_last (last_of company s.cycles.kept)
 abbrev pub IsDue : State → Entry → Type 0
 IsDue s (Open company cycle count day digest) = standing_of s.cycles company cycle digest ≡ Ok New
 IsDue s (Line company cycle line bytes) = due_line s company ≡ Some (cycle, line)
-IsDue s (Edit editor serial edit) = serial ≡ last_serial (edit_of editor s.edits) + 1
+IsDue s (Edit editor serial edit) = serial ≡ last_serial (last_edit editor s.edits) + 1
 
 -- the cycle and the line that may be booked, 0 and 0 for none
 abbrev pub not_next : Option (ℕ × ℕ) → DueFault
@@ -67,4 +67,4 @@ edit_due (Err f) = Err (standing_fault f)
 abbrev pub due_of : State → Entry → Result (Unit {0}) DueFault
 due_of s (Open company cycle count day digest) = opening_due (due_line s company) (standing_of s.cycles company cycle digest)
 due_of s (Line company cycle line bytes) = line_due (due_line s company) cycle line
-due_of s (Edit editor serial edit) = edit_due (serial_standing (edit_of editor s.edits) serial (edit_digest edit))
+due_of s (Edit editor serial edit) = edit_due (serial_standing (last_edit editor s.edits) serial (edit_digest edit))

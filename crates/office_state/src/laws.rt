@@ -3,9 +3,10 @@ ghost use Rattle.std.specs.Prelude.{◌≡◌, ℕ, List, [], ◌∷◌, ◌++�
 ghost use Rattle.std.specs.FinMap.{get};
 ghost use Rattle.ali_record.specs.Layout.{byte_of};
 ghost use Rattle.ali_record.specs.declared.field.Field.TheVariants.{Function};
-ghost use Rattle.number_life.specs.declared.function.Function.TheVariants.{Migrate};
+ghost use Rattle.ali_record.specs.Functions.{function_of};
+ghost use Rattle.ali_record.specs.declared.function.Function.TheVariants.{Migrate};
 ghost use Rattle.number_life.specs.declared.row.Row.{Row};
-ghost use Rattle.number_life.specs.NumberLife.{owner, function_of};
+ghost use Rattle.number_life.specs.NumberLife.{owner};
 ghost use Rattle.sequence_once.specs.KeptCycles.{codes_of};
 ghost use Rattle.sequence_once.specs.CycleStanding.{standing_of};
 ghost use Rattle.sequence_once.specs.declared.standing.Standing.TheVariants.{Complete};

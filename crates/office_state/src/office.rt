@@ -6,7 +6,7 @@ ghost use Rattle.ali_base.specs.CivilDay.{CivilDay};
 ghost use Rattle.sequence_once.specs.KeptCycles.{IsSound, last_of, is_last_finished, codes_of, count_of};
 ghost use Rattle.sequence_once.specs.CycleReaders.{last_shown, record_of};
 ghost use Rattle.sequence_once.specs.CycleStanding.{standing_of};
-ghost use Rattle.sequence_once.specs.SerialStanding.{AreKeptEdits, edit_of, serial_standing};
+ghost use Rattle.sequence_once.specs.SerialStanding.{AreKeptEdits, last_edit, serial_standing};
 ghost use Rattle.sequence_once.specs.declared.standing.Standing.TheVariants.{New};
 ghost use Rattle.office_entry.specs.EditBytes.{edit_digest};
 ghost use Rattle.office_entry.specs.Entries.{IsEntry};
@@ -153,7 +153,7 @@ impl Office {
         serial: Serial,
         digest: &[u8; 32],
     ) -> Result<Standing, CycleFault>
-        ensures table { result ≡ serial_standing (edit_of editor self.now.state.edits) serial digest.now }
+        ensures table { result ≡ serial_standing (last_edit editor self.now.state.edits) serial digest.now }
         ensures sound { AreKeptEdits self.now.state.edits }
     {
         self.edits
@@ -162,7 +162,7 @@ impl Office {
 
     /// The serial of an editor's last edit, and what that edit got.
     pub fn edit_kept(&self, editor: Editor) -> Option<(u32, Verdict)>
-        ensures { result ≡ option_map edit_shown (edit_of editor self.now.state.edits) }
+        ensures { result ≡ option_map edit_shown (last_edit editor self.now.state.edits) }
     {
         let (serial, _, code, detail) = self.edits.kept(editor.number())?;
         Some((serial, Verdict { code, detail }))
@@ -365,7 +365,7 @@ impl Office {
         serial: Serial,
         edit: &Edit,
     ) -> Result<Verdict, NoMemory>
-        requires new { serial_standing (edit_of editor self.old.state.edits) serial (edit_digest edit.now) ≡ Ok New }
+        requires new { serial_standing (last_edit editor self.old.state.edits) serial (edit_digest edit.now) ≡ Ok New }
         requires count { self.old.entries < 4_000_000_000 }
         ensures verdict { IfOk result (λ v. v ≡ verdict self.old.state (AnyEntry.Edit editor serial edit.now)) }
         ensures after { OnOk result (self.new ≡ record { state = after self.old.state (AnyEntry.Edit editor serial edit.now); entries = self.old.entries + 1 }) }

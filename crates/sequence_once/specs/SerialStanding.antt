@@ -31,8 +31,8 @@ abbrev pub no_edits : List (Option EditRecord)
 no_edits = replicate 64 None
 
 -- the last edit of an editor; editor 1 has the first place
-abbrev pub edit_of : ℕ → List (Option EditRecord) → Option EditRecord
-edit_of editor edits = get_or edits (editor - 1) None
+abbrev pub last_edit : ℕ → List (Option EditRecord) → Option EditRecord
+last_edit editor edits = get_or edits (editor - 1) None
 
 -- the serial of an editor's last edit, 0 before its first
 abbrev pub last_serial : Option EditRecord → ℕ

@@ -7,7 +7,7 @@ ghost use Rattle.sequence_once.specs.CycleReaders.{last_shown, record_of};
 ghost use Rattle.sequence_once.specs.declared.standing.Standing.TheVariants.{New};
 ghost use Rattle.sequence_once.specs.declared.standing.CycleFault.TheVariants.{TooOld};
 
-use crate::entry::Entry;
+use crate::cycle_record::CycleRecord;
 use crate::kept::{KeptCycle, Last};
 use crate::standing::{CycleFault, Standing};
 use ali_base::{Company, Cycle, NoMemory};
@@ -18,7 +18,7 @@ use std::marker::Model;
 /// one after the other, of which all but the last are finished.
 #[derive(Drop)]
 pub struct Cycles {
-    entries: Vec<Entry>,
+    kept: Vec<CycleRecord>,
     known: u32,
     companies: u32,
 }
@@ -29,9 +29,9 @@ impl Model for Cycles {
 
     ghost Value = { CyclesState };
 
-    ghost view = { λ c. record { kept = c.entries.items; limit = c.companies } };
+    ghost view = { λ c. record { kept = c.kept.items; limit = c.companies } };
 
-    ghost invariant = { λ c. IsSound (record { kept = c.entries.items; limit = c.companies }) × (c.known ≡ known_companies c.entries.items) };
+    ghost invariant = { λ c. IsSound (record { kept = c.kept.items; limit = c.companies }) × (c.known ≡ known_companies c.kept.items) };
 }
 
 impl Cycles {
@@ -40,7 +40,7 @@ impl Cycles {
         ensures { IfOk result (λ c. c ≡ record { kept = []; limit = companies }) }
     {
         Ok(Cycles {
-            entries: Vec::new(alloc),
+            kept: Vec::new(alloc),
             known: 0,
             companies,
         })
@@ -89,9 +89,9 @@ impl Cycles {
         ensures sound { OnOk result (IsSound self.new) }
         ensures unchanged { OnErr result (self.new ≡ self.old) }
     {
-        let entry = Entry::new(alloc, company, cycle, count, digest)?;
+        let fresh = CycleRecord::new(alloc, company, cycle, count, digest)?;
         let (from, to) = self.span(company);
-        put_cycle(&mut self.entries, from, to, entry)?;
+        put_cycle(&mut self.kept, from, to, fresh)?;
         self.known = count_company(self.known, to - from);
         Ok(())
     }
@@ -104,24 +104,24 @@ impl Cycles {
         ensures sound { IsSound self.new }
     {
         let (_, to) = self.span(company);
-        let entry = &mut self.entries[to - 1];
-        entry.note(code);
+        let last = &mut self.kept[to - 1];
+        last.note(code);
     }
 
     /// The codes of a company's cycle, where it is kept.
     pub fn codes(&self, company: Company, cycle: Cycle) -> Option<&[u16]>
         ensures { option_copied result ≡ codes_of company cycle self.now.kept }
     {
-        let entry = find_cycle(self.cycles_of(company), cycle)?;
-        Some(entry.codes())
+        let kept = find_cycle(self.cycles_of(company), cycle)?;
+        Some(kept.codes())
     }
 
     /// How many lines the file of a company's cycle has, where it is kept.
     pub fn count(&self, company: Company, cycle: Cycle) -> Option<u32>
         ensures { result ≡ count_of company cycle self.now.kept }
     {
-        let entry = find_cycle(self.cycles_of(company), cycle)?;
-        Some(entry.count())
+        let kept = find_cycle(self.cycles_of(company), cycle)?;
+        Some(kept.count())
     }
 
     /// The last cycle of a company.
@@ -129,11 +129,11 @@ impl Cycles {
         ensures same { result ≡ option_map last_shown (last_of company self.now.kept) }
         ensures sound { IsSound self.now }
     {
-        let entry = self.cycles_of(company).last()?;
+        let last = self.cycles_of(company).last()?;
         Some(Last {
-            cycle: entry.cycle(),
-            count: entry.count(),
-            noted: entry.noted(),
+            cycle: last.cycle(),
+            count: last.count(),
+            noted: last.noted(),
         })
     }
 
@@ -142,13 +142,13 @@ impl Cycles {
         ensures same { option_map record_of result ≡ slice_get self.now.kept i }
         ensures sound { IsSound self.now }
     {
-        let entry = self.entries.get(i as usize)?;
+        let kept = self.kept.get(i as usize)?;
         Some(KeptCycle {
-            company: entry.company(),
-            cycle: entry.cycle(),
-            count: entry.count(),
-            digest: entry.digest(),
-            codes: entry.codes(),
+            company: kept.company(),
+            cycle: kept.cycle(),
+            count: kept.count(),
+            digest: kept.digest(),
+            codes: kept.codes(),
         })
     }
 
@@ -156,7 +156,7 @@ impl Cycles {
     pub fn clear(&mut self)
         ensures { self.new ≡ record { kept = []; limit = self.old.limit } }
     {
-        self.entries.clear();
+        self.kept.clear();
         self.known = 0;
     }
 
@@ -167,17 +167,17 @@ impl Cycles {
         ensures within { result.1 ≤ length self.now.kept }
         ensures sound { IsSound self.now }
     {
-        let from = count_before(&self.entries, company);
-        (from, from + count_own(&self.entries, company))
+        let from = count_before(&self.kept, company);
+        (from, from + count_own(&self.kept, company))
     }
 
     // The cycles of the company, the oldest first.
-    fn cycles_of(&self, company: Company) -> &[Entry]
+    fn cycles_of(&self, company: Company) -> &[CycleRecord]
         ensures same { result.now ≡ of_company company self.now.kept }
         ensures sound { IsSound self.now }
     {
         let (from, to) = self.span(company);
-        part(&self.entries, from, to)
+        part(&self.kept, from, to)
     }
 
     // Whether the company is new and there are as many as the limit.
@@ -190,7 +190,7 @@ impl Cycles {
 
 // The standing of a file among the cycles of its company.
 fn standing_among(
-    cycles: &[Entry],
+    cycles: &[CycleRecord],
     full: bool,
     limit: u32,
     cycle: Cycle,
@@ -212,98 +212,101 @@ fn standing_among(
         return Err(CycleFault::Gap(if finished { last + 1 } else { last }));
     }
     match find_cycle(cycles, cycle) {
-        Some(entry) => repeated(entry, digest),
+        Some(kept) => repeated(kept, digest),
         None => Err(CycleFault::TooOld(oldest(cycles))),
     }
 }
 
 // The number of the last cycle and whether it is finished.
-fn last_of(cycles: &[Entry]) -> (u32, bool)
+fn last_of(cycles: &[CycleRecord]) -> (u32, bool)
     ensures number { result.0 ≡ last_number (newest cycles.now) }
     ensures finished { result.1 ≡ is_last_finished (newest cycles.now) }
     ensures low { result.0 ≤ 999_999 }
 {
     match cycles.last() {
-        Some(entry) => (entry.cycle().number(), entry.is_finished()),
+        Some(last) => (last.cycle().number(), last.is_finished()),
         None => (0, true),
     }
 }
 
 // The number of the oldest cycle, 0 of none.
-fn oldest(cycles: &[Entry]) -> u32
+fn oldest(cycles: &[CycleRecord]) -> u32
     ensures { result ≡ oldest_number cycles.now }
 {
     match cycles {
-        [entry, ..] => entry.cycle().number(),
+        [first, ..] => first.cycle().number(),
         [] => 0,
     }
 }
 
 // The cycle of this number.
-fn find_cycle(cycles: &[Entry], cycle: Cycle) -> Option<&Entry>
+fn find_cycle(cycles: &[CycleRecord], cycle: Cycle) -> Option<&CycleRecord>
     ensures { option_copied result ≡ find (λ k. k.cycle == cycle) cycles.now }
 {
     cycles.iter().find(|e| e.cycle() == cycle)
 }
 
 // The standing of a file whose cycle is kept.
-fn repeated(entry: &Entry, digest: &[u8; 32]) -> Result<Standing, CycleFault>
-    ensures { result ≡ repeated entry.now digest.now }
+fn repeated(kept: &CycleRecord, digest: &[u8; 32]) -> Result<Standing, CycleFault>
+    ensures { result ≡ repeated kept.now digest.now }
 {
-    if entry.digest() != digest {
+    if kept.digest() != digest {
         return Err(CycleFault::Differs {
-            kept: *entry.digest(),
+            kept: *kept.digest(),
             sent: *digest,
         });
     }
-    if entry.is_finished() {
+    if kept.is_finished() {
         Ok(Standing::Complete)
     } else {
-        Ok(Standing::Resume(entry.noted() + 1))
+        Ok(Standing::Resume(kept.noted() + 1))
     }
 }
 
-// How many entries are of companies before this one.
-fn count_before(entries: &[Entry], company: Company) -> usize
-    ensures { result ≡ length (before_company company entries.now) }
+// How many kept cycles are of companies before this one.
+fn count_before(kept: &[CycleRecord], company: Company) -> usize
+    ensures { result ≡ length (before_company company kept.now) }
 {
-    entries
-        .iter()
+    kept.iter()
         .filter(|e| e.company().cmp(&company).is_lt())
         .count()
 }
 
-// How many entries are of this company.
-fn count_own(entries: &[Entry], company: Company) -> usize
-    ensures { result ≡ length (of_company company entries.now) }
+// How many kept cycles are of this company.
+fn count_own(kept: &[CycleRecord], company: Company) -> usize
+    ensures { result ≡ length (of_company company kept.now) }
 {
-    entries
-        .iter()
+    kept.iter()
         .filter(|e| e.company().cmp(&company).is_eq())
         .count()
 }
 
-// The entries from one place to another.
-fn part(entries: &[Entry], from: usize, to: usize) -> &[Entry]
+// The kept cycles from one place to another.
+fn part(kept: &[CycleRecord], from: usize, to: usize) -> &[CycleRecord]
     requires order { from ≤ to }
-    requires within { to ≤ length entries.now }
-    ensures { result.now ≡ slice_range entries.now from to }
+    requires within { to ≤ length kept.now }
+    ensures { result.now ≡ slice_range kept.now from to }
 {
-    &entries[from..to]
+    &kept[from..to]
 }
 
 // Puts a cycle behind those of its company, of which the oldest goes where there are eight.
-fn put_cycle(entries: &mut Vec<Entry>, from: usize, to: usize, entry: Entry) -> Result<(), NoMemory>
+fn put_cycle(
+    kept: &mut Vec<CycleRecord>,
+    from: usize,
+    to: usize,
+    fresh: CycleRecord,
+) -> Result<(), NoMemory>
     requires order { from ≤ to }
-    requires within { to ≤ length entries.old.items }
-    ensures put { OnOk result (entries.new.items ≡ (if to - from == 8 then remove (insert entries.old.items to entry) from else insert entries.old.items to entry)) }
-    ensures unchanged { OnErr result (entries.new.items ≡ entries.old.items) }
+    requires within { to ≤ length kept.old.items }
+    ensures put { OnOk result (kept.new.items ≡ (if to - from == 8 then remove (insert kept.old.items to fresh) from else insert kept.old.items to fresh)) }
+    ensures unchanged { OnErr result (kept.new.items ≡ kept.old.items) }
 {
-    if entries.insert(to, entry).is_err() {
+    if kept.insert(to, fresh).is_err() {
         return Err(NoMemory);
     }
     if to - from == 8 {
-        entries.remove(from);
+        kept.remove(from);
     }
     Ok(())
 }

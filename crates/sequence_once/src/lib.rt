@@ -2,11 +2,11 @@
 //! guide edit once: the last edit of every editor, and what an edit is to it.
 #![tactic(auto)]
 
+mod cycle_record;
 mod cycles;
-mod entry;
+mod edit_record;
 mod hashing;
 mod kept;
-mod kept_edit;
 mod serials;
 mod standing;
 

@@ -2,11 +2,11 @@
 ghost use Rattle.std.specs.Prelude.{◌≡◌, ◌≢◌, ℕ, ◌+◌, ◌<◌, option_map, IfOk, Some, Ok, Err, ◌↔◌};
 ghost use Rattle.std.specs.Option.{option_copied};
 ghost use Rattle.ali_base.specs.Editors.{IsEditor, IsSerial};
-ghost use Rattle.sequence_once.specs.SerialStanding.{EditRecord, AreKeptEdits, no_edits, edit_of, last_serial, last_digest, serial_repeated, serial_standing, after_serial, edit_record};
+ghost use Rattle.sequence_once.specs.SerialStanding.{EditRecord, AreKeptEdits, no_edits, last_edit, last_serial, last_digest, serial_repeated, serial_standing, after_serial, edit_record};
 ghost use Rattle.sequence_once.specs.declared.standing.Standing.TheVariants.{New, Complete};
 ghost use Rattle.sequence_once.specs.declared.standing.CycleFault.TheVariants.{Gap, Differs, TooOld};
 
-use crate::kept_edit::KeptEdit;
+use crate::edit_record::EditRecord;
 use crate::standing::{CycleFault, Standing};
 use ali_base::NoMemory;
 use std::alloc::Global;
@@ -16,7 +16,7 @@ use std::marker::Model;
 /// the code and the detail of its answer.
 #[derive(Drop)]
 pub struct Serials {
-    edits: Vec<Option<KeptEdit>>,
+    edits: Vec<Option<EditRecord>>,
 }
 
 impl Model for Serials {
@@ -54,12 +54,12 @@ impl Serials {
     ) -> Result<Standing, CycleFault>
         requires editor { IsEditor editor }
         requires serial { IsSerial serial }
-        ensures table { result ≡ serial_standing (edit_of editor self.now) serial digest.now }
-        ensures new { let last = edit_of editor self.now in (result ≡ Ok New) ↔ (serial ≡ last_serial last + 1) }
-        ensures complete { let last = edit_of editor self.now in (result ≡ Ok Complete) ↔ ((serial ≡ last_serial last) × (digest.now ≡ last_digest last)) }
-        ensures differs { let last = edit_of editor self.now in (result ≡ Err (Differs (last_digest last) digest.now)) ↔ ((serial ≡ last_serial last) × (digest.now ≢ last_digest last)) }
-        ensures too_old { let last = edit_of editor self.now in (result ≡ Err (TooOld (last_serial last))) ↔ (serial < last_serial last) }
-        ensures gap { let last = edit_of editor self.now in (result ≡ Err (Gap (last_serial last + 1))) ↔ (last_serial last + 1 < serial) }
+        ensures table { result ≡ serial_standing (last_edit editor self.now) serial digest.now }
+        ensures new { let last = last_edit editor self.now in (result ≡ Ok New) ↔ (serial ≡ last_serial last + 1) }
+        ensures complete { let last = last_edit editor self.now in (result ≡ Ok Complete) ↔ ((serial ≡ last_serial last) × (digest.now ≡ last_digest last)) }
+        ensures differs { let last = last_edit editor self.now in (result ≡ Err (Differs (last_digest last) digest.now)) ↔ ((serial ≡ last_serial last) × (digest.now ≢ last_digest last)) }
+        ensures too_old { let last = last_edit editor self.now in (result ≡ Err (TooOld (last_serial last))) ↔ (serial < last_serial last) }
+        ensures gap { let last = last_edit editor self.now in (result ≡ Err (Gap (last_serial last + 1))) ↔ (last_serial last + 1 < serial) }
         ensures sound { AreKeptEdits self.now }
     {
         standing_after(self.last(editor), serial, digest)
@@ -70,19 +70,19 @@ impl Serials {
     pub fn note(&mut self, editor: u8, serial: u32, digest: &[u8; 32], code: u16, detail: u64)
         requires editor { IsEditor editor }
         requires serial { IsSerial serial }
-        requires due { serial_standing (edit_of editor self.old) serial digest.now ≡ Ok New }
+        requires due { serial_standing (last_edit editor self.old) serial digest.now ≡ Ok New }
         ensures noted { self.new ≡ after_serial self.old editor serial digest.now code detail }
-        ensures last { edit_of editor self.new ≡ Some (record { serial = serial; digest = digest.now; code = code; detail = detail }) }
-        ensures others { (other : ℕ) → IsEditor other → other ≢ editor → edit_of other self.new ≡ edit_of other self.old }
+        ensures last { last_edit editor self.new ≡ Some (record { serial = serial; digest = digest.now; code = code; detail = detail }) }
+        ensures others { (other : ℕ) → IsEditor other → other ≢ editor → last_edit other self.new ≡ last_edit other self.old }
         ensures sound { AreKeptEdits self.new }
     {
-        self.edits[editor as usize - 1] = Some(KeptEdit::new(serial, digest, code, detail));
+        self.edits[editor as usize - 1] = Some(EditRecord::new(serial, digest, code, detail));
     }
 
     /// The last serial of an editor, with the digest, the code and the detail of its edit.
     pub fn kept(&self, editor: u8) -> Option<(u32, &[u8; 32], u16, u64)>
         requires { IsEditor editor }
-        ensures same { option_map edit_record result ≡ edit_of editor self.now }
+        ensures same { option_map edit_record result ≡ last_edit editor self.now }
         ensures sound { AreKeptEdits self.now }
     {
         let edit = self.last(editor)?;
@@ -97,9 +97,9 @@ impl Serials {
     }
 
     // The last edit of an editor.
-    fn last(&self, editor: u8) -> Option<&KeptEdit>
+    fn last(&self, editor: u8) -> Option<&EditRecord>
         requires { IsEditor editor }
-        ensures same { option_copied result ≡ edit_of editor self.now }
+        ensures same { option_copied result ≡ last_edit editor self.now }
         ensures sound { AreKeptEdits self.now }
     {
         self.edits[editor as usize - 1].as_ref()
@@ -108,7 +108,7 @@ impl Serials {
 
 // The standing of an edit after its editor's last one.
 fn standing_after(
-    last: Option<&KeptEdit>,
+    last: Option<&EditRecord>,
     serial: u32,
     digest: &[u8; 32],
 ) -> Result<Standing, CycleFault>
@@ -134,7 +134,7 @@ fn standing_after(
 }
 
 // The standing of an edit with the last serial.
-fn repeated(edit: &KeptEdit, digest: &[u8; 32]) -> Result<Standing, CycleFault>
+fn repeated(edit: &EditRecord, digest: &[u8; 32]) -> Result<Standing, CycleFault>
     ensures { result ≡ serial_repeated edit.now digest.now }
 {
     if edit.digest() == digest {

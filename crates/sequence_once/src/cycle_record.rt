@@ -8,7 +8,7 @@ use std::marker::Model;
 
 /// A kept cycle. Room for as many codes as its file has lines is taken when it is made.
 #[derive(Drop)]
-pub struct Entry {
+pub struct CycleRecord {
     company: Company,
     cycle: Cycle,
     count: u32,
@@ -16,19 +16,19 @@ pub struct Entry {
     codes: Vec<u16>,
 }
 
-impl Model for Entry {
+impl Model for CycleRecord {
     ghost use Rattle.std.specs.Prelude.{◌≤◌, length};
     ghost use Rattle.std.specs.Vec.{vec_capacity};
     ghost use Rattle.sequence_once.specs.KeptCycles.{CycleRecord};
 
     ghost Value = { CycleRecord };
 
-    ghost view = { λ e. record { company = e.company; cycle = e.cycle; count = e.count; digest = e.digest; codes = e.codes.items } };
+    ghost view = { λ k. record { company = k.company; cycle = k.cycle; count = k.count; digest = k.digest; codes = k.codes.items } };
 
-    ghost invariant = { λ e. (length e.codes.items ≤ e.count) × (e.count ≤ vec_capacity e.codes) };
+    ghost invariant = { λ k. (length k.codes.items ≤ k.count) × (k.count ≤ vec_capacity k.codes) };
 }
 
-impl Entry {
+impl CycleRecord {
     /// A cycle with no codes yet, and room for all of them.
     pub fn new(
         alloc: Global,
@@ -37,9 +37,9 @@ impl Entry {
         count: u32,
         digest: &[u8; 32],
     ) -> Result<Self, NoMemory>
-        ensures { IfOk result (λ e. e ≡ opened company cycle count digest.now) }
+        ensures { IfOk result (λ k. k ≡ opened company cycle count digest.now) }
     {
-        Ok(Entry {
+        Ok(CycleRecord {
             company,
             cycle,
             count,

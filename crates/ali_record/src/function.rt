@@ -1,4 +1,4 @@
-//! What a record asks for.
+//! The functions of a record.
 ghost use Rattle.std.specs.Prelude.{◌≡◌};
 
 /// What a record asks for, by its function.
@@ -17,10 +17,10 @@ pub enum Function {
 }
 
 impl Function {
-    ghost use Rattle.number_life.specs.NumberLife.{function_of};
+    ghost use Rattle.ali_record.specs.Functions.{function_of};
 
     /// The function of a record's letter, which is I, C, D, U or M.
-    pub(crate) fn of(byte: u8) -> Self
+    pub fn of(byte: u8) -> Self
         ensures { result ≡ function_of byte }
     {
         if byte == b'I' {

@@ -9,7 +9,7 @@ use ali_record::Field;
 /// How a number stands for a company: it has no row, or one of its own or of another's, which is
 /// locked or unlocked.
 #[derive(Clone, Copy, Debug, PartialEq, Eq)]
-pub enum Standing {
+pub enum NumberStanding {
     Absent,
     OwnLocked,
     OwnUnlocked,
@@ -17,20 +17,20 @@ pub enum Standing {
     OthersUnlocked,
 }
 
-impl Standing {
-    ghost use Rattle.number_life.specs.NumberLife.{standing_of, own, others};
+impl NumberStanding {
+    ghost use Rattle.number_life.specs.NumberLife.{number_standing, own, others};
 
     /// The standing of a number that has this row or none.
     pub(crate) fn of(current: Option<&Row>, company: &[u8]) -> Self
-        ensures { result ≡ standing_of (option_copied current.entry) company.now }
+        ensures { result ≡ number_standing (option_copied current.entry) company.now }
     {
         match current {
-            None => Standing::Absent,
+            None => NumberStanding::Absent,
             Some(row) => {
                 if row.rec.field(Field::Company) == company {
-                    Standing::own(row.unlocked)
+                    NumberStanding::own(row.unlocked)
                 } else {
-                    Standing::others(row.unlocked)
+                    NumberStanding::others(row.unlocked)
                 }
             }
         }
@@ -40,8 +40,8 @@ impl Standing {
         ensures { result ≡ own unlocked }
     {
         match unlocked {
-            None => Standing::OwnLocked,
-            Some(_) => Standing::OwnUnlocked,
+            None => NumberStanding::OwnLocked,
+            Some(_) => NumberStanding::OwnUnlocked,
         }
     }
 
@@ -49,8 +49,8 @@ impl Standing {
         ensures { result ≡ others unlocked }
     {
         match unlocked {
-            None => Standing::OthersLocked,
-            Some(_) => Standing::OthersUnlocked,
+            None => NumberStanding::OthersLocked,
+            Some(_) => NumberStanding::OthersUnlocked,
         }
     }
 }

@@ -5,14 +5,14 @@ use std::marker::Model;
 
 /// An edit of the street guide that was answered.
 #[derive(Clone, Copy)]
-pub struct KeptEdit {
+pub struct EditRecord {
     serial: u32,
     digest: [u8; 32],
     code: u16,
     detail: u64,
 }
 
-impl Model for KeptEdit {
+impl Model for EditRecord {
     ghost use Rattle.sequence_once.specs.SerialStanding.{EditRecord};
 
     ghost Value = { EditRecord };
@@ -22,12 +22,12 @@ impl Model for KeptEdit {
     ghost inverse = { λ e. record { serial = e.serial; digest = e.digest; code = e.code; detail = e.detail } };
 }
 
-impl KeptEdit {
+impl EditRecord {
     /// An edit with this serial, the digest of its bytes, and the code and the detail of its answer.
     pub fn new(serial: u32, digest: &[u8; 32], code: u16, detail: u64) -> Self
         ensures { result ≡ record { serial = serial; digest = digest.now; code = code; detail = detail } }
     {
-        KeptEdit {
+        EditRecord {
             serial,
             digest: *digest,
             code,
