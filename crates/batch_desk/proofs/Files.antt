@@ -17,7 +17,8 @@ use Rattle.sequence_once.specs.declared.standing.CycleFault.{CycleFault}
 use Rattle.office_state.specs.OfficeState.{State}
 use Rattle.office_state.specs.Due.{due_line}
 use Rattle.office_state.specs.Verdict.{after}
-use Rattle.office_state.proofs.Standings.{kept_file, resumed, complete_codes, standing_after_open, count_after_open, standing_after_line, count_after_line}
+use Rattle.sequence_once.proofs.KeptFiles.{kept_file}
+use Rattle.office_state.proofs.Standings.{resumed, complete_codes, standing_after_open, count_after_open, standing_after_line, count_after_line}
 use Rattle.batch_desk.specs.FileJobs.{is_other_count, with_count, file_standing, opening, line_entry, line_entries, lines_from}
 use Rattle.batch_desk.specs.JobReplies.{kept_codes}
 

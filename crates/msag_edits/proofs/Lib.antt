@@ -3,3 +3,5 @@ pub mod Ranges
 pub mod RowFields
 pub mod Soundness
 pub mod PartsAndShifts
+pub mod GuideEdits
+pub mod EditedGuides

@@ -2,3 +2,4 @@ pub mod HouseArithmetic
 pub mod EditRules
 pub mod Edits
 pub mod GuideSoundness
+pub mod EditedTables

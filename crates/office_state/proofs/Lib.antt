@@ -1,16 +1,9 @@
-pub mod CycleRuns
 pub mod Steps
 pub mod Histories
+pub mod Answers
 pub mod Positions
 pub mod Standings
 pub mod KeptCodes
-pub mod Rooms
-pub mod RecordActs
-pub mod StoredRecords
-pub mod GuideEdits
-pub mod SoundTables
 pub mod SoundHistories
-pub mod CompanyLock
 pub mod EditSteps
 pub mod SoundOffices
-pub mod LineActs

@@ -7,6 +7,7 @@ use Rattle.ali_base.specs.CivilDay.{CivilDay}
 use Rattle.sequence_once.specs.KeptCycles.{CycleRecord, IsSound, newest, last_of}
 use Rattle.sequence_once.specs.CycleStanding.{last_number}
 use Rattle.sequence_once.specs.SerialStanding.{last_edit, last_serial}
+use Rattle.sequence_once.proofs.KeptFiles.{opening_means}
 use Rattle.sequence_once.proofs.Sound.{sound_empty}
 use Rattle.office_entry.specs.Entries.{IsEntry}
 use Rattle.office_entry.specs.declared.entry.Entry.{Entry}
@@ -14,9 +15,9 @@ use Rattle.office_entry.specs.declared.entry.Entry.TheVariants.{Open, Line, Edit
 use Rattle.office_state.specs.declared.limits.Limits.{Limits}
 use Rattle.office_state.specs.OfficeState.{State, empty_state}
 use Rattle.office_state.specs.Due.{IsDue}
-use Rattle.office_state.specs.Verdict.{after, code_of, record_act}
+use Rattle.office_state.specs.Verdict.{after, code_in}
 use Rattle.office_state.specs.History.{AreDue, IsLegal, Repeats}
-use Rattle.office_state.proofs.Steps.{company_of, one_or_two, opening_means, line_means, sound_after, others_after, last_opened, last_noted, editors_after, serial_noted, serials_rise}
+use Rattle.office_state.proofs.Steps.{company_of, one_or_two, line_means, sound_after, others_after, last_opened, last_noted, editors_after, serial_noted, serials_rise}
 
 -- how many codes the last cycle has
 abbrev noted : Option CycleRecord → ℕ
@@ -73,7 +74,7 @@ line_passed : (s : State) (company : List ℕ) (cycle line : ℕ) (bytes : List 
 line_passed s company cycle line bytes due =
     let means = line_means (last_of company s.cycles.kept) cycle line due in
     let k = means.kept in
-    let code = code_of (record_act s company bytes) in
+    let code = code_in s company bytes in
     let number = means.number in
     let next = means.next in
     let long = length-append k.codes (code ∷ []) in

@@ -13,7 +13,7 @@ use Rattle.sequence_once.specs.CycleStanding.{last_number, standing_of}
 use Rattle.sequence_once.specs.SerialStanding.{EditRecord, last_edit, last_serial}
 use Rattle.sequence_once.specs.declared.standing.Standing.TheVariants.{New}
 use Rattle.sequence_once.proofs.Order.{by_bytes, same_company}
-use Rattle.sequence_once.proofs.Sound.{new_means, sound_opened, sound_noted}
+use Rattle.sequence_once.proofs.Sound.{sound_opened, sound_noted}
 use Rattle.sequence_once.proofs.Laws.{others_after_open, last_after_open, others_after_note, last_after_note}
 use Rattle.office_entry.specs.Entries.{IsEntry}
 use Rattle.office_entry.specs.declared.edit.Edit.{Edit as GuideEdit}
@@ -21,7 +21,7 @@ use Rattle.office_entry.specs.declared.entry.Entry.{Entry}
 use Rattle.office_entry.specs.declared.entry.Entry.TheVariants.{Open, Line, Edit}
 use Rattle.office_state.specs.OfficeState.{State}
 use Rattle.office_state.specs.Due.{IsDue, line_of_last}
-use Rattle.office_state.specs.Verdict.{after, code_of, record_act}
+use Rattle.office_state.specs.Verdict.{after, code_in}
 
 -- the company of an entry; an edit, which has none and changes no cycles, counts as one of the empty company
 abbrev pub company_of : Entry → List ℕ
@@ -40,14 +40,6 @@ one_or_two c d = at (by_bytes c d) refl
     at Less e = inr (not_itself Less e (λ h. cc))
     at Equal e = inl (same_company c d e)
     at Greater e = inr (not_itself Greater e (λ h. cc))
-
-next_means : (cycle last : ℕ) (finished : Bool) → ((cycle == last + 1) && finished) ≡ true → (cycle ≡ last + 1) × (finished ≡ true)
-next_means cycle last true e = (grind (arith, nat_tests), refl)
-next_means cycle last false e = (grind (arith, nat_tests), grind (arith, nat_tests))
-
--- a new cycle is the one after the last, which is finished
-pub opening_means : (s : CyclesState) (c : List ℕ) (cycle : ℕ) (digest : List ℕ) → standing_of s c cycle digest ≡ Ok New → (cycle ≡ last_number (last_of c s.kept) + 1) × (is_last_finished (last_of c s.kept) ≡ true)
-opening_means s c cycle digest new = next_means cycle (last_number (last_of c s.kept)) (is_last_finished (last_of c s.kept)) (new_means s c cycle digest new).0
 
 -- the last cycle of a company, of which this line is the next
 pub record NextLine (last : Option CycleRecord) (cycle line : ℕ) : Type 0 where
@@ -81,14 +73,14 @@ line_undone last cycle line e = let h = line_means last cycle line e in ap is_la
 pub sound_after : (s : State) (e : Entry) → IsSound s.cycles → IsDue s e → let later = after s e in IsSound later.cycles
 unfolding after
 sound_after s (Open company cycle count day digest) sound due = sound_opened s.cycles sound company cycle count digest due
-sound_after s (Line company cycle line bytes) sound due = sound_noted s.cycles sound company (code_of (record_act s company bytes)) (line_undone (last_of company s.cycles.kept) cycle line due)
+sound_after s (Line company cycle line bytes) sound due = sound_noted s.cycles sound company (code_in s company bytes) (line_undone (last_of company s.cycles.kept) cycle line due)
 sound_after s (Edit editor serial edit) sound due = sound
 
 -- every other company keeps its cycles
 pub others_after : (s : State) (e : Entry) → IsSound s.cycles → (d : List ℕ) → (d ≡ company_of e → ⊥) → let later = after s e in of_company d later.cycles.kept ≡ of_company d s.cycles.kept
 unfolding after
 others_after s (Open company cycle count day digest) sound d differ = others_after_open s.cycles sound company cycle count digest d differ
-others_after s (Line company cycle line bytes) sound d differ = others_after_note s.cycles company (code_of (record_act s company bytes)) d differ
+others_after s (Line company cycle line bytes) sound d differ = others_after_note s.cycles company (code_in s company bytes) d differ
 others_after s (Edit editor serial edit) sound d differ = refl
 
 -- the opened cycle is the last
@@ -97,9 +89,9 @@ unfolding after
 last_opened s sound company cycle count day digest = last_after_open s.cycles sound company cycle count digest
 
 -- the last cycle has the code of a line
-pub last_noted : (s : State) (company : List ℕ) (cycle line : ℕ) (bytes : List ℕ) (k : CycleRecord) → last_of company s.cycles.kept ≡ Some k → let later = after s (Line company cycle line bytes) in last_of company later.cycles.kept ≡ Some (record k { codes = k.codes ++ code_of (record_act s company bytes) ∷ [] })
+pub last_noted : (s : State) (company : List ℕ) (cycle line : ℕ) (bytes : List ℕ) (k : CycleRecord) → last_of company s.cycles.kept ≡ Some k → let later = after s (Line company cycle line bytes) in last_of company later.cycles.kept ≡ Some (record k { codes = k.codes ++ code_in s company bytes ∷ [] })
 unfolding after
-last_noted s company cycle line bytes k e = last_after_note s.cycles company (code_of (record_act s company bytes)) k e
+last_noted s company cycle line bytes k e = last_after_note s.cycles company (code_in s company bytes) k e
 
 -- there stays a place for each editor
 pub editors_after : (s : State) (e : Entry) → let later = after s e in length later.edits ≡ length s.edits

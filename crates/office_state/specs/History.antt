@@ -1,5 +1,5 @@
 -- The booked history: the entries that the office accepted into its order, with the refused ones among them.
-use Rattle.std.specs.Prelude.{◌≡◌, List, [], ◌∷◌, length, fold}
+use Rattle.std.specs.Prelude.{◌≡◌, List, [], ◌∷◌, ◌++◌, length, fold}
 use Rattle.office_entry.specs.declared.entry.Entry.{Entry}
 use Rattle.office_entry.specs.declared.entry.Entry.TheVariants.{Open, Line, Edit}
 use Rattle.office_entry.specs.Entries.{IsEntry}
@@ -38,3 +38,13 @@ pub record Represents (limits : Limits) (office : OfficeState) (history : List E
   pub legal : IsLegal limits history
   pub same : office.state ≡ state limits history
   pub entries : office.entries ≡ length history
+
+-- each history that the old office represents, the new one represents with these entries behind it
+abbrev pub KeepsHistory : OfficeState → OfficeState → List Entry → Type 0
+KeepsHistory old new entries =
+    (limits : Limits) (history : List Entry) → Represents limits old history → Represents limits new (history ++ entries)
+
+-- the new office represents the empty history, under the limits of any that the old one represents
+abbrev pub ForgetsHistory : OfficeState → OfficeState → Type 0
+ForgetsHistory old new =
+    (limits : Limits) (history : List Entry) → Represents limits old history → Represents limits new []

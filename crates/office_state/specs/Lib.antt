@@ -6,5 +6,5 @@ pub mod Verdict
 pub mod History
 pub mod AnswerForm
 pub mod Refusals
-pub mod Rooms
 pub mod EditReaders
+pub mod Booked

@@ -40,3 +40,10 @@ limits_of s = record { companies = s.cycles.limit; numbers = s.most_numbers; ran
 pub record OfficeState : Type 0 where
   pub state : State
   pub entries : ℕ
+
+-- the office of these parts
+abbrev pub office_of : NumberTable → ℕ → StreetGuide → CyclesState → List (Option EditRecord) → ℕ → OfficeState
+office_of table most guide cycles edits entries = record {
+  state = record { table = table; most_numbers = most; guide = without_spare guide; cycles = cycles; edits = edits };
+  entries = entries;
+}

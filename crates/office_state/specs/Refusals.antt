@@ -1,8 +1,8 @@
 -- Why an entry is not applied.
 use Rattle.std.specs.Prelude.{◌≡◌, Err}
 use Rattle.office_entry.specs.declared.entry.Entry.{Entry}
-use Rattle.office_state.specs.declared.office.ApplyFault.{ApplyFault}
-use Rattle.office_state.specs.declared.office.ApplyFault.TheVariants.{NotDue, NoMemory}
+use Rattle.office_state.specs.declared.apply_fault.ApplyFault.{ApplyFault}
+use Rattle.office_state.specs.declared.apply_fault.ApplyFault.TheVariants.{NotDue, NoMemory}
 use Rattle.office_state.specs.OfficeState.{State}
 use Rattle.office_state.specs.Due.{due_of}
 

@@ -1,103 +1,34 @@
 -- What an entry gets, and what it leaves.
-use Rattle.std.specs.Prelude.{ℕ, ◌==◌, ◌&&◌, nat_le, List, Option, Some, None, Result, Ok, Err, if◌then◌else◌}
-use Rattle.std.specs.Option.{option_map_or}
-use Rattle.std.specs.FinMap.{get, insert, remove, len}
-use Rattle.msag_ranges.specs.StreetGuide.{StreetGuide}
-use Rattle.msag_ranges.specs.declared.range.Range.{Range}
-use Rattle.ali_record.specs.Layout.{field_of, byte_of}
-use Rattle.ali_record.specs.RecordReading.{reading_code, sends_address}
-use Rattle.ali_record.specs.FieldChanges.{with_esn}
-use Rattle.ali_record.specs.declared.field.Field.TheVariants.{TelephoneNumber, Function}
-use Rattle.address_check.specs.RecordPlace.{place_of_record}
-use Rattle.number_life.specs.declared.act.LifeAct.{LifeAct}
-use Rattle.number_life.specs.declared.act.LifeAct.TheVariants.{Store, Remove, Unlock}
-use Rattle.number_life.specs.NumberLife.{life_of}
-use Rattle.number_table.specs.NumberTable.{NumberTable}
-use Rattle.number_table.specs.HeldRows.{changed}
+use Rattle.std.specs.Prelude.{ℕ, List}
+use Rattle.line_booking.specs.LineVerdict.{line_code, table_with_line}
 use Rattle.sequence_once.specs.KeptCycles.{after_open, after_note}
 use Rattle.sequence_once.specs.SerialStanding.{after_serial}
-use Rattle.msag_edits.specs.Edits.{edit_verdict, edit_act}
+use Rattle.msag_edits.specs.Edits.{edit_verdict}
+use Rattle.msag_edits.specs.EditedTables.{guide_after, rows_after}
 use Rattle.office_entry.specs.EditBytes.{edit_digest}
-use Rattle.office_entry.specs.declared.edit.Edit.{Edit as GuideEdit}
 use Rattle.office_entry.specs.declared.entry.Entry.{Entry}
 use Rattle.office_entry.specs.declared.entry.Entry.TheVariants.{Open, Line, Edit}
 use Rattle.office_state.specs.declared.verdict.Verdict.{Verdict}
 use Rattle.office_state.specs.OfficeState.{State}
 
--- the code of an address check, where it has one
-abbrev pub place_fault : Option (Result (ℕ × ℕ) ℕ) → Option ℕ
-place_fault None = None
-place_fault (Some (Ok place)) = None
-place_fault (Some (Err code)) = Some code
-
--- the code of the address check of a record, which is asked of I, C and M
-abbrev pub address_fault : List Range → List ℕ → Option ℕ
-address_fault ranges bytes = if sends_address (byte_of bytes Function) then place_fault (place_of_record ranges bytes) else None
-
--- what is done to the number, unless the address check has a code
-abbrev pub where_placed : Option ℕ → Result LifeAct ℕ → Result LifeAct ℕ
-where_placed fault (Err code) = Err code
-where_placed None (Ok act) = Ok act
-where_placed (Some code) (Ok act) = Err code
-
--- what is done to the number, or 509 where an insert finds the table at its limit
-abbrev pub within_limit : State → ℕ → Result LifeAct ℕ → Result LifeAct ℕ
-within_limit s function (Err code) = Err code
-within_limit s function (Ok act) = if (function == 73) && nat_le s.most_numbers (len s.table) then Err 509 else Ok act
-
--- the act of a record in a company's file, or its code: the first of that of its reading, that of its number's life, that of the address check, and 509
-unfoldable pub record_act : State → List ℕ → List ℕ → Result LifeAct ℕ
-record_act s company bytes =
-    if reading_code company bytes == 0
-    then within_limit s (byte_of bytes Function) (where_placed (address_fault s.guide.ranges bytes) (life_of (get s.table (field_of bytes TelephoneNumber)) bytes))
-    else Err (reading_code company bytes)
-
--- 0 where there is something to be done
-abbrev pub code_of : Result LifeAct ℕ → ℕ
-code_of (Ok act) = 0
-code_of (Err code) = code
+-- the code of a line of a company's file
+abbrev pub code_in : State → List ℕ → List ℕ → ℕ
+code_in s company bytes = line_code s.guide.ranges s.table s.most_numbers company bytes
 
 -- the code and the detail of an entry; an opening gets 0
 abbrev pub verdict : State → Entry → Verdict
 verdict s (Open company cycle count day digest) = record { code = 0; detail = 0 }
-verdict s (Line company cycle line bytes) = record { code = code_of (record_act s company bytes); detail = 0 }
+verdict s (Line company cycle line bytes) = record { code = code_in s company bytes; detail = 0 }
 verdict s (Edit editor serial edit) = let v = edit_verdict s.guide s.table edit in record { code = v.code; detail = v.detail }
-
--- a record with the emergency service number of its place as five digits
-abbrev pub filled : List ℕ → Option (Result (ℕ × ℕ) ℕ) → List ℕ
-filled bytes None = bytes
-filled bytes (Some (Ok place)) = with_esn bytes place.1
-filled bytes (Some (Err code)) = bytes
-
--- a record as it is stored: with the emergency service number of the range that holds its address
-abbrev pub stored : List Range → List ℕ → List ℕ
-stored ranges bytes = if sends_address (byte_of bytes Function) then filled bytes (place_of_record ranges bytes) else bytes
-
--- the table after an act on a number: the record is its row, locked; or the row is gone; or it stays and is unlocked
-abbrev pub acted : NumberTable → List ℕ → List ℕ → LifeAct → NumberTable
-acted table tn rec Store = insert table tn (record { rec = rec; unlocked = None })
-acted table tn rec Remove = remove table tn
-acted table tn rec (Unlock day) = option_map_or (λ row. insert table tn (record row { unlocked = Some day })) (get table tn) table
-
--- the table after a line, which a refused one leaves
-abbrev pub table_after : List Range → NumberTable → List ℕ → Result LifeAct ℕ → NumberTable
-table_after ranges table bytes (Err code) = table
-table_after ranges table bytes (Ok act) = acted table (field_of bytes TelephoneNumber) (stored ranges bytes) act
-
--- the guide after an edit, which a refused one leaves
-abbrev pub guide_after : StreetGuide → GuideEdit → ℕ → StreetGuide
-guide_after g edit code = if code == 0 then record g { ranges = (edit_act g edit).ranges; next = (edit_act g edit).next } else g
-
--- the table after an edit, which a refused one leaves
-abbrev pub rows_after : StreetGuide → NumberTable → GuideEdit → ℕ → NumberTable
-rows_after g table edit code = if code == 0 then changed (edit_act g edit).row table else table
 
 -- the state after an entry: an opening adds a cycle, a line notes its code under the last one, and an edit is noted as its editor's last
 unfoldable pub after : State → Entry → State
 after s (Open company cycle count day digest) = record s { cycles = after_open s.cycles company cycle count digest }
 after s (Line company cycle line bytes) =
-    let act = record_act s company bytes in
-    record s { table = table_after s.guide.ranges s.table bytes act; cycles = after_note s.cycles company (code_of act) }
+    record s {
+      table = table_with_line s.guide.ranges s.table s.most_numbers company bytes;
+      cycles = after_note s.cycles company (code_in s company bytes);
+    }
 after s (Edit editor serial edit) =
     let v = edit_verdict s.guide s.table edit in
     record s {

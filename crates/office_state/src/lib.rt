@@ -2,21 +2,24 @@
 //! the entries of the booked history that change it.
 #![tactic(auto)]
 
+mod apply_fault;
+mod booking;
 mod due;
 mod due_fault;
-mod judging;
 mod laws;
 mod limits;
 mod office;
+mod readers;
 mod verdict;
 
+pub use apply_fault::ApplyFault;
 pub use due_fault::DueFault;
 pub use laws::{
     bookings_are_once, finished_cycles_keep_their_codes, legal_histories_are_sound,
     locked_rows_are_their_owners, owners_change_by_migrate,
 };
 pub use limits::Limits;
-pub use office::{ApplyFault, Office};
+pub use office::Office;
 pub use verdict::Verdict;
 
 #[cfg(test)]

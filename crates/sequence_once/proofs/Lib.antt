@@ -8,3 +8,7 @@ pub mod Edits
 pub mod TooOldFiles
 pub mod Laws
 pub mod SerialCauses
+pub mod CycleRuns
+pub mod KeptFiles
+pub mod FileSteps
+pub mod FinishedFiles

@@ -15,7 +15,7 @@ use Rattle.number_life.specs.declared.number_standing.NumberStanding.TheVariants
 use Rattle.number_life.specs.declared.row.Row.{Row}
 use Rattle.number_life.specs.NumberLife.{life, life_of}
 use Rattle.number_table.specs.NumberTable.{NumberTable}
-use Rattle.office_state.specs.Rooms.{HasRoom}
+use Rattle.line_booking.specs.Rooms.{HasRoom}
 
 -- a number without a row is stored by an insert alone
 only_inserts : (f : Function) (day : CivilDay) → life f Absent day ≡ Ok Store → f ≡ function.Insert

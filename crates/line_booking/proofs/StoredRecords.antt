@@ -18,11 +18,12 @@ use Rattle.ali_record.specs.declared.field.Field.TheVariants.{Function, HouseNum
 use Rattle.ali_record.proofs.FieldTexts.{length-esn_text}
 use Rattle.ali_record.proofs.Overwriting.{part_before, part_after, part_inside}
 use Rattle.msag_edits.specs.GuideSoundness.{IsPlaced}
+use Rattle.msag_edits.proofs.GuideEdits.{HaveFiveDigits}
 use Rattle.msag_edits.proofs.Ranges.{find-is}
 use Rattle.msag_edits.proofs.RowFields.{esn-size}
 use Rattle.number_table.specs.HeldRows.{holds_record}
 use Rattle.number_table.proofs.HeldAddresses.{held-by, same-address}
-use Rattle.office_state.specs.Verdict.{address_fault, place_fault, stored, filled}
+use Rattle.line_booking.specs.LineVerdict.{address_fault, place_fault, stored, filled}
 
 -- a record with another text of five bytes in the columns of its emergency service number
 module _ (b text : List ℕ) (five : length text ≡ 5) (long : 230 ≤ length b) where
@@ -93,10 +94,6 @@ stored_is ranges bytes = at (sends_address (byte_of bytes Function)) (place_of_r
     at true None sends h = inl (rw (sends, h) refl)
     at true (Some (Err code)) sends h = inl (rw (sends, h) refl)
     at true (Some (Ok place)) sends h = inr (held_at ranges bytes place sends h)
-
--- each range has an emergency service number of five digits at most
-abbrev pub HaveFiveDigits : List Range → Type 0
-HaveFiveDigits ranges = All (λ r. r.esn ≤ 99_999) ranges
 
 small_there : (ranges : List Range) (bytes : List ℕ) → HaveFiveDigits ranges → (h : IsHeld ranges bytes) → h.range.esn ≤ 99_999
 small_there ranges bytes small h = All-contains (λ r. r.esn ≤ 99_999) ranges h.range small h.live

@@ -1,6 +1,6 @@
 -- An edit that is done leaves a sound guide, whose emergency service numbers have five digits.
 use Rattle.std.proofs.Common.{◌≡◌, ℕ, ◌+◌, ◌<◌, ◌≤◌, ◌==◌, ◌&&◌, nat_le, Bool, true, false, cond, not, ℤ, List, length, get_or, refl, subst, arith, Option, Some, None, if◌then◌else◌}
-use Rattle.std.specs.List.{position}
+use Rattle.std.specs.List.{All, position}
 use Rattle.std.proofs.lemmas.Bool.{not-false}
 use Rattle.std.proofs.lemmas.List.{length-map}
 use Rattle.std.proofs.lemmas.Bool.Decides.{nat_tests}
@@ -23,7 +23,10 @@ use Rattle.number_table.specs.NumberTable.{NumberTable}
 use Rattle.office_entry.specs.declared.edit.Edit.{Edit}
 use Rattle.office_entry.specs.declared.edit.Edit.TheVariants.{Add, Retire, Split, Renumber, SetEsn}
 use Rattle.office_entry.specs.Edits.{IsEdit}
-use Rattle.office_state.proofs.StoredRecords.{HaveFiveDigits}
+
+-- each range has an emergency service number of five digits at most
+abbrev pub HaveFiveDigits : List Range → Type 0
+HaveFiveDigits ranges = All (λ r. r.esn ≤ 99_999) ranges
 
 -- ---- what code 0 says
 

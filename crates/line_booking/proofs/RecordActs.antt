@@ -13,8 +13,9 @@ use Rattle.ali_record.specs.declared.field.Field.TheVariants.{Function, Telephon
 use Rattle.ali_record.proofs.Accepted.{read-none}
 use Rattle.number_life.specs.declared.act.LifeAct.{LifeAct}
 use Rattle.number_life.specs.NumberLife.{life_of}
-use Rattle.office_state.specs.OfficeState.{State}
-use Rattle.office_state.specs.Verdict.{record_act, address_fault, where_placed, within_limit}
+use Rattle.number_table.specs.NumberTable.{NumberTable}
+use Rattle.msag_ranges.specs.declared.range.Range.{Range}
+use Rattle.line_booking.specs.LineVerdict.{record_act, address_fault, where_placed, within_limit}
 
 -- column 512 is there where it has the end mark
 long_enough : (bytes : List ℕ) → get_or bytes 511 0 ≡ 42 → 512 ≤ length bytes
@@ -50,14 +51,14 @@ read_tells company bytes h =
     }
 
 -- a record with which this is done is read, the life of its number says so, and its address has no fault
-pub record IsJudged (s : State) (company bytes : List ℕ) (act : LifeAct) : Type 0 where
+pub record IsJudged (ranges : List Range) (table : NumberTable) (company bytes : List ℕ) (act : LifeAct) : Type 0 where
   pub reading : reading_code company bytes ≡ 0
-  pub life : life_of (get s.table (field_of bytes TelephoneNumber)) bytes ≡ Ok act
-  pub placed : address_fault s.guide.ranges bytes ≡ None
+  pub life : life_of (get table (field_of bytes TelephoneNumber)) bytes ≡ Ok act
+  pub placed : address_fault ranges bytes ≡ None
 
-in_limit : (s : State) (letter : ℕ) (r : Result LifeAct ℕ) (act : LifeAct) → within_limit s letter r ≡ Ok act → r ≡ Ok act
-in_limit s letter (Ok done) act h = grind arith
-in_limit s letter (Err code) act h = h
+in_limit : (table : NumberTable) (most letter : ℕ) (r : Result LifeAct ℕ) (act : LifeAct) → within_limit table most letter r ≡ Ok act → r ≡ Ok act
+in_limit table most letter (Ok done) act h = grind arith
+in_limit table most letter (Err code) act h = h
 
 is_placed : (fault : Option ℕ) (r : Result LifeAct ℕ) (act : LifeAct) → where_placed fault r ≡ Ok act → (r ≡ Ok act) × (fault ≡ None)
 is_placed None (Ok done) act h = (h, refl)
@@ -65,18 +66,18 @@ is_placed (Some code) (Ok done) act h = absurd cc
 is_placed fault (Err code) act h = absurd cc
 
 -- what it says that something is done with a record
-pub judged : (s : State) (company bytes : List ℕ) (act : LifeAct) → record_act s company bytes ≡ Ok act → IsJudged s company bytes act
+pub judged : (ranges : List Range) (table : NumberTable) (most : ℕ) (company bytes : List ℕ) (act : LifeAct) → record_act ranges table most company bytes ≡ Ok act → IsJudged ranges table company bytes act
 unfolding record_act
-judged s company bytes act h = at (reading_code company bytes == 0) refl h
+judged ranges table most company bytes act h = at (reading_code company bytes == 0) refl h
   where
     fault : Option ℕ
-    fault = address_fault s.guide.ranges bytes
+    fault = address_fault ranges bytes
 
     life : Result LifeAct ℕ
-    life = life_of (get s.table (field_of bytes TelephoneNumber)) bytes
+    life = life_of (get table (field_of bytes TelephoneNumber)) bytes
 
-    at : (b : Bool) → (reading_code company bytes == 0) ≡ b → cond b (within_limit s (byte_of bytes Function) (where_placed fault life)) (Err (reading_code company bytes)) ≡ Ok act → IsJudged s company bytes act
+    at : (b : Bool) → (reading_code company bytes == 0) ≡ b → cond b (within_limit table most (byte_of bytes Function) (where_placed fault life)) (Err (reading_code company bytes)) ≡ Ok act → IsJudged ranges table company bytes act
     at true e h =
-        let parts = is_placed fault life act (in_limit s (byte_of bytes Function) (where_placed fault life) act h) in
+        let parts = is_placed fault life act (in_limit table most (byte_of bytes Function) (where_placed fault life) act h) in
         record { reading = grind (arith, nat_tests); life = parts.0; placed = parts.1 }
     at false e h = absurd cc

@@ -1,0 +1,4 @@
+pub mod LineVerdict
+pub mod Rooms
+pub mod LineLaws
+pub mod AskedLines
