@@ -1,6 +1,6 @@
 -- Civil days of the years 2000 to 2099, written MMDDYY.
-use Rattle.std.specs.Prelude.{ℕ, ◌+◌, ◌-◌, ◌==◌, ◌&&◌, Bool, nat_le, List, ◌++◌, length, pos, Option, None, if◌then◌else◌}
-use Rattle.jiff_core.specs.Calendar.{days_in_month}
+use Rattle.std.specs.Prelude.{ℕ, ◌+◌, ◌-◌, ◌==◌, ◌&&◌, Bool, nat_le, List, ◌++◌, length, ℤ, pos, ◌-ℤ◌, Option, None, if◌then◌else◌}
+use Rattle.jiff_core.specs.Calendar.{days_in_month, days_from_civil}
 use Rattle.ali_base.specs.Steps.{◌>>=◌, when}
 use Rattle.ali_base.specs.Columns.{columns}
 use Rattle.ali_base.specs.Digits.{digits_number}
@@ -30,6 +30,14 @@ written_day bytes = do
 -- the day that these bytes are
 abbrev pub day_of : List ℕ → Option CivilDay
 day_of bytes = if length bytes == 6 then written_day bytes else None
+
+-- the number of a day in the calendar: the days since 1 January 1970
+abbrev pub day_number : CivilDay → ℤ
+day_number d = days_from_civil (pos d.year) d.month d.day
+
+-- the days from one day to another; negative where the other lies before it
+abbrev pub days_between : CivilDay → CivilDay → ℤ
+days_between from to = day_number to -ℤ day_number from
 
 -- six digits: the month, the day, and the year's last two digits
 abbrev pub day_text : CivilDay → List ℕ

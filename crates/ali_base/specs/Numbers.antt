@@ -3,6 +3,8 @@ use Rattle.std.specs.Prelude.{ℕ, ◌-◌, ◌==◌, ◌&&◌, nat_le, List, �
 use Rattle.std.specs.Fmt.{decimal}
 use Rattle.ali_base.specs.Steps.{◌>>=◌, when}
 use Rattle.ali_base.specs.Digits.{digits_number}
+use Rattle.ali_base.specs.declared.cycle.TheConstants.{LAST_CYCLE}
+use Rattle.ali_base.specs.declared.esn.TheConstants.{HIGHEST_ESN}
 
 -- the decimal number, with zeros before it up to this width
 abbrev pub zero_padded : ℕ → ℕ → List ℕ
@@ -17,8 +19,8 @@ fixed_number width low high bytes =
 
 -- a cycle: six digits, 1 to 999,999
 abbrev pub cycle_of : List ℕ → Option ℕ
-cycle_of bytes = fixed_number 6 1 999_999 bytes
+cycle_of bytes = fixed_number 6 1 LAST_CYCLE bytes
 
 -- an emergency service number: five digits, 1 to 99,999
 abbrev pub esn_of : List ℕ → Option ℕ
-esn_of bytes = fixed_number 5 1 99_999 bytes
+esn_of bytes = fixed_number 5 1 HIGHEST_ESN bytes

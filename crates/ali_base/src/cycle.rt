@@ -6,6 +6,9 @@ ghost use Rattle.ali_base.specs.Numbers.{cycle_of, zero_padded};
 use crate::numbers::{fixed_number, write_zero_padded};
 use std::marker::Model;
 
+/// The last number of a company's file.
+pub const LAST_CYCLE: u32 = 999_999;
+
 /// The number of a company's file, 1 to 999,999: its files are numbered one after the other.
 #[derive(Clone, Copy, Debug, PartialEq, Eq, PartialOrd, Ord)]
 pub struct Cycle {
@@ -14,12 +17,13 @@ pub struct Cycle {
 
 impl Model for Cycle {
     ghost use Rattle.std.specs.Prelude.{ℕ, ◌≤◌};
+    ghost use Rattle.ali_base.specs.declared.cycle.TheConstants.{LAST_CYCLE};
 
     ghost Value = { ℕ };
 
     ghost view = { λ c. c.number };
 
-    ghost invariant = { λ c. (1 ≤ c.number) × (c.number ≤ 999_999) };
+    ghost invariant = { λ c. (1 ≤ c.number) × (c.number ≤ LAST_CYCLE) };
 
     ghost inverse = { λ n. record { number = n } };
 }
@@ -27,9 +31,9 @@ impl Model for Cycle {
 impl Cycle {
     /// The cycle of this number, 1 to 999,999.
     pub fn new(number: u32) -> Option<Self>
-        ensures { result ≡ when (nat_le 1 number && nat_le number 999_999) number }
+        ensures { result ≡ when (nat_le 1 number && nat_le number LAST_CYCLE) number }
     {
-        if 1 <= number && number <= 999_999 {
+        if 1 <= number && number <= LAST_CYCLE {
             Some(Cycle { number })
         } else {
             None
@@ -40,7 +44,7 @@ impl Cycle {
     pub fn read(bytes: &[u8]) -> Option<Self>
         ensures { result ≡ cycle_of bytes.now }
     {
-        let number = fixed_number(6, 1, 999_999, bytes)?;
+        let number = fixed_number(6, 1, LAST_CYCLE, bytes)?;
         Some(Cycle { number })
     }
 
@@ -57,7 +61,7 @@ impl Cycle {
     pub fn number(self) -> u32
         ensures same { result ≡ self }
         ensures low { 1 ≤ result }
-        ensures high { result ≤ 999_999 }
+        ensures high { result ≤ LAST_CYCLE }
     {
         self.number
     }

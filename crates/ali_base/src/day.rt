@@ -1,7 +1,8 @@
 //! Civil days.
-ghost use Rattle.std.specs.Prelude.{◌≡◌, ◌≤◌, ◌<◌, length};
+ghost use Rattle.std.specs.Prelude.{◌≡◌, ◌≤◌, ◌<◌, length, pos};
 ghost use Rattle.ali_base.specs.Numbers.{zero_padded};
-ghost use Rattle.ali_base.specs.CivilDay.{day_of, day_text, written_day, day_in_century, is_civil_date};
+ghost use Rattle.ali_base.specs.CivilDay.{day_of, day_text, days_between, written_day, day_in_century, is_civil_date};
+ghost use Rattle.jiff_core.specs.Date.{IsYmd};
 
 use crate::fields::{columns, digits_number};
 use crate::numbers::write_zero_padded;
@@ -48,6 +49,20 @@ impl Day {
         let [d1, d2] = two_digits(self.day);
         let [y1, y2] = two_digits((self.year - 2000) as u8);
         [m1, m2, d1, d2, y1, y2]
+    }
+
+    /// The days from the other day to this one; negative where this one lies before the other.
+    pub fn days_from(self, other: Day) -> i64
+        ensures { result ≡ days_between other self }
+    {
+        i64::from(other.date().until(self.date()))
+    }
+
+    // The day in the calendar.
+    fn date(self) -> Date
+        ensures { IsYmd (pos self.year) (pos self.month) (pos self.day) result }
+    {
+        Date::new(self.year as i16, self.month as i8, self.day as i8).unwrap()
     }
 }
 

@@ -5,6 +5,12 @@ ghost use Rattle.ali_base.specs.Steps.{when};
 
 use std::marker::Model;
 
+/// How many editors there are.
+pub const EDITORS: u8 = 64;
+
+/// The last serial of an editor's edits.
+pub const LAST_SERIAL: u32 = 999_999_999;
+
 /// An editor of the street guide, 1 to 64.
 #[derive(Clone, Copy, Debug, PartialEq, Eq, PartialOrd, Ord)]
 pub struct Editor {
@@ -27,9 +33,9 @@ impl Model for Editor {
 impl Editor {
     /// The editor of this number, 1 to 64.
     pub fn new(number: u8) -> Option<Self>
-        ensures { result ≡ when (nat_le 1 number && nat_le number 64) number }
+        ensures { result ≡ when (nat_le 1 number && nat_le number EDITORS) number }
     {
-        if 1 <= number && number <= 64 {
+        if 1 <= number && number <= EDITORS {
             Some(Editor { number })
         } else {
             None
@@ -67,9 +73,9 @@ impl Model for Serial {
 impl Serial {
     /// The serial of this number, 1 to 999,999,999.
     pub fn new(number: u32) -> Option<Self>
-        ensures { result ≡ when (nat_le 1 number && nat_le number 999_999_999) number }
+        ensures { result ≡ when (nat_le 1 number && nat_le number LAST_SERIAL) number }
     {
-        if 1 <= number && number <= 999_999_999 {
+        if 1 <= number && number <= LAST_SERIAL {
             Some(Serial { number })
         } else {
             None

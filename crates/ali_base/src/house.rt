@@ -7,6 +7,9 @@ use crate::fields::{digits_number, front_trimmed, trimmed};
 use itoa::Buffer;
 use std::marker::Model;
 
+/// The highest house number.
+pub const HIGHEST_HOUSE: u32 = 999_999;
+
 /// A house number: 0 to 999,999.
 #[derive(Clone, Copy, Debug, PartialEq, Eq, PartialOrd, Ord)]
 pub struct House {
@@ -15,12 +18,13 @@ pub struct House {
 
 impl Model for House {
     ghost use Rattle.std.specs.Prelude.{ℕ, ◌≤◌};
+    ghost use Rattle.ali_base.specs.declared.house.TheConstants.{HIGHEST_HOUSE};
 
     ghost Value = { ℕ };
 
     ghost view = { λ h. h.number };
 
-    ghost invariant = { λ h. h.number ≤ 999_999 };
+    ghost invariant = { λ h. h.number ≤ HIGHEST_HOUSE };
 
     ghost inverse = { λ n. record { number = n } };
 }
@@ -28,9 +32,9 @@ impl Model for House {
 impl House {
     /// The house number of this number, 0 to 999,999.
     pub fn new(number: u32) -> Option<Self>
-        ensures { result ≡ when (nat_le number 999_999) number }
+        ensures { result ≡ when (nat_le number HIGHEST_HOUSE) number }
     {
-        if number <= 999_999 {
+        if number <= HIGHEST_HOUSE {
             Some(House { number })
         } else {
             None
@@ -62,7 +66,7 @@ impl House {
     /// The number, 0 to 999,999.
     pub fn number(self) -> u32
         ensures same { result ≡ self }
-        ensures limit { result ≤ 999_999 }
+        ensures limit { result ≤ HIGHEST_HOUSE }
     {
         self.number
     }
@@ -75,7 +79,7 @@ fn house_in(field: &[u8]) -> Option<House>
     ensures { result ≡ house_number field.now }
 {
     let number = digits_number(trimmed(front_trimmed(field)))?;
-    if number <= 999_999 {
+    if number <= u64::from(HIGHEST_HOUSE) {
         Some(House {
             number: number as u32,
         })

@@ -23,13 +23,13 @@ mod tn;
 mod whole_puts;
 
 pub use company::Company;
-pub use cycle::Cycle;
+pub use cycle::{Cycle, LAST_CYCLE};
 pub use day::Day;
 pub use duty::{Duty, Mode};
-pub use editor::{Editor, Serial};
-pub use esn::Esn;
+pub use editor::{EDITORS, Editor, LAST_SERIAL, Serial};
+pub use esn::{Esn, HIGHEST_ESN};
 pub use fields::{columns, digits_number, front_trimmed, is_blank, is_printable, trimmed};
-pub use house::House;
+pub use house::{HIGHEST_HOUSE, House};
 pub use memory_sink::MemSink;
 pub use memory_source::MemSource;
 pub use names::{DiskName, NodeName};

@@ -37,3 +37,28 @@ fn memory_sink_holds_what_fits(rt: HostRuntime) -> Result<(), Fail> {
     assert_eq!(rt; sink.faults(), 1);
     Ok(())
 }
+
+// Days between dates, counted by hand: 2000 and 2024 have a 29 February, 2023 has none, and a century
+// of 2000 to 2099 has 36,525 days with 25 leap days.
+#[test]
+fn days_between_two_days(rt: HostRuntime) {
+    let counts = [
+        (b"010100", b"010100", 0),
+        (b"010200", b"010100", 1),
+        (b"010100", b"010200", -1),
+        (b"030100", b"022800", 2),
+        (b"030123", b"022823", 1),
+        (b"030124", b"022824", 2),
+        (b"010101", b"010100", 366),
+        (b"010100", b"010101", -366),
+        (b"010124", b"010123", 365),
+        (b"010125", b"010124", 366),
+        (b"123199", b"010100", 36_524),
+        (b"010224", b"123123", 2),
+    ];
+    for (day, other, days) in &counts {
+        let day = Day::read(*day).expect(&rt, "a day");
+        let other = Day::read(*other).expect(&rt, "a day");
+        assert_eq!(rt; day.days_from(other), *days);
+    }
+}

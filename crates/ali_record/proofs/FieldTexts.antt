@@ -14,6 +14,8 @@ use Rattle.ali_base.specs.Columns.{is_space, is_empty, is_printable, trimmed, fr
 use Rattle.ali_base.specs.Digits.{digits_number}
 use Rattle.ali_base.specs.HouseNumber.{at_most, house_number, house_of, house_text}
 use Rattle.ali_base.specs.Numbers.{zero_padded}
+use Rattle.ali_base.specs.declared.house.TheConstants.{HIGHEST_HOUSE}
+use Rattle.ali_base.specs.declared.esn.TheConstants.{HIGHEST_ESN}
 
 own : IsNumeralModel (λ ds. all_ascii_digits ds ≡ true) (digits_value 10)
 own = numerals_by_value _ tells_all_ascii_digits
@@ -71,13 +73,13 @@ unfolding digits_number
 digits_number-decimal n small =
     ap (λ b. cond b (Some (digits_value 10 (decimal n))) None) (digits_decimal own n (omega arith)) ∙ ap Some (digits_value-decimal own n (omega arith))
 
-pub length-house_text : (n : ℕ) → n ≤ 999_999 → length (house_text n) ≡ 10
+pub length-house_text : (n : ℕ) → n ≤ HIGHEST_HOUSE → length (house_text n) ≡ 10
 length-house_text n small =
     let short : length (decimal n) ≤ 6 = length-decimal-le 6 n (omega arith) (omega arith) (omega arith) in
     omega (arith, length-append (decimal n) (replicate (10 - length (decimal n)) 32), length-replicate (10 - length (decimal n)) 32)
 
 -- a house number is read again from its text
-pub house_of-text : (n : ℕ) → n ≤ 999_999 → house_of (house_text n) ≡ Some n
+pub house_of-text : (n : ℕ) → n ≤ HIGHEST_HOUSE → house_of (house_text n) ≡ Some n
 unfolding house_number
 house_of-text n small =
     let len : length (house_text n) ≡ 10 = length-house_text n small in
@@ -85,24 +87,24 @@ house_of-text n small =
     let k = 10 - length (decimal n) in
     let clear = digits_spaceless (decimal n) (digits_decimal own n (omega arith)) in
     let some : 0 < length (decimal n) = decimal_nonempty n (omega arith) in
-    let below : nat_le n 999_999 ≡ true = grind (arith, nat_tests) in
+    let below : nat_le n HIGHEST_HOUSE ≡ true = grind (arith, nat_tests) in
     ap (λ b. cond b (house_number (house_text n)) None) ten
-    ∙ ap (λ z. at_most 999_999 (digits_number (trimmed z))) (front_trimmed-kept (decimal n) (replicate k 32) some clear)
-    ∙ ap (λ z. at_most 999_999 (digits_number z)) (trimmed-padded (decimal n) k clear)
-    ∙ ap (at_most 999_999) (digits_number-decimal n (omega arith)) ∙ ap (λ b. cond b (Some n) None) below
+    ∙ ap (λ z. at_most HIGHEST_HOUSE (digits_number (trimmed z))) (front_trimmed-kept (decimal n) (replicate k 32) some clear)
+    ∙ ap (λ z. at_most HIGHEST_HOUSE (digits_number z)) (trimmed-padded (decimal n) k clear)
+    ∙ ap (at_most HIGHEST_HOUSE) (digits_number-decimal n (omega arith)) ∙ ap (λ b. cond b (Some n) None) below
 
-pub printed-house_text : (n : ℕ) → n ≤ 999_999 → list_all is_printable (house_text n) ≡ true
+pub printed-house_text : (n : ℕ) → n ≤ HIGHEST_HOUSE → list_all is_printable (house_text n) ≡ true
 printed-house_text n small =
     list_all-append is_printable (decimal n) (replicate (10 - length (decimal n)) 32)
     ∙ ap (λ b. b && list_all is_printable (replicate (10 - length (decimal n)) 32)) (digits_printed (decimal n) (digits_decimal own n (omega arith)))
     ∙ all_replicated is_printable (10 - length (decimal n)) 32 refl
 
-pub length-esn_text : (n : ℕ) → n ≤ 99_999 → length (zero_padded 5 n) ≡ 5
+pub length-esn_text : (n : ℕ) → n ≤ HIGHEST_ESN → length (zero_padded 5 n) ≡ 5
 length-esn_text n small =
     let short : length (decimal n) ≤ 5 = length-decimal-le 5 n (omega arith) (omega arith) (omega arith) in
     omega (arith, length-append (replicate (5 - length (decimal n)) 48) (decimal n), length-replicate (5 - length (decimal n)) 48)
 
-pub printed-esn_text : (n : ℕ) → n ≤ 99_999 → list_all is_printable (zero_padded 5 n) ≡ true
+pub printed-esn_text : (n : ℕ) → n ≤ HIGHEST_ESN → list_all is_printable (zero_padded 5 n) ≡ true
 printed-esn_text n small =
     list_all-append is_printable (replicate (5 - length (decimal n)) 48) (decimal n)
     ∙ ap (λ b. b && list_all is_printable (decimal n)) (all_replicated is_printable (5 - length (decimal n)) 48 refl)

@@ -10,8 +10,10 @@ use Rattle.ali_record.proofs.Accepted.{accepted-like, accepted-printed, accepted
 use Rattle.ali_record.proofs.Overwriting.{part_before, part_after, part_inside, byte_before, byte_after, all_over}
 use Rattle.ali_record.proofs.FieldTexts.{length-house_text, house_of-text, printed-house_text, length-esn_text, printed-esn_text}
 use Rattle.ali_base.specs.Columns.{is_printable}
+use Rattle.ali_base.specs.declared.house.TheConstants.{HIGHEST_HOUSE}
+use Rattle.ali_base.specs.declared.esn.TheConstants.{HIGHEST_ESN}
 
-pub accepted-with_house : (b : List ℕ) (n : ℕ) → length b ≡ 512 → n ≤ 999_999 → IsAccepted b → IsAccepted (with_house b n)
+pub accepted-with_house : (b : List ℕ) (n : ℕ) → length b ≡ 512 → n ≤ HIGHEST_HOUSE → IsAccepted b → IsAccepted (with_house b n)
 accepted-with_house b n len small h =
     let text = house_text n in
     let ten = length-house_text n small in
@@ -29,7 +31,7 @@ accepted-with_house b n len small h =
     (byte_after b text 11 21 219 size inside (omega arith) (omega arith))
     (byte_after b text 11 21 220 size inside (omega arith) (omega arith))
 
-pub accepted-with_esn : (b : List ℕ) (n : ℕ) → length b ≡ 512 → n ≤ 99_999 → IsAccepted b → IsAccepted (with_esn b n)
+pub accepted-with_esn : (b : List ℕ) (n : ℕ) → length b ≡ 512 → n ≤ HIGHEST_ESN → IsAccepted b → IsAccepted (with_esn b n)
 accepted-with_esn b n len small h =
     let text = zero_padded 5 n in
     let five = length-esn_text n small in

@@ -5,7 +5,7 @@ ghost use Rattle.ali_record.specs.FieldChanges.{with_field, with_house, with_esn
 
 use crate::field::Field;
 use crate::record::Record;
-use ali_base::{Esn, House};
+use ali_base::{Esn, HIGHEST_ESN, HIGHEST_HOUSE, House};
 
 impl Record {
     /// Writes a house number over its columns: the decimal number at the left, then spaces. All
@@ -13,7 +13,7 @@ impl Record {
     pub fn set_house(&mut self, n: House)
         ensures { self.new ≡ with_house self.old n }
     {
-        prove!(n.number() <= 999_999);
+        prove!(n.number() <= HIGHEST_HOUSE);
         write_field(&mut self.bytes, Field::HouseNumber, &n.text());
     }
 
@@ -22,7 +22,7 @@ impl Record {
         ensures written { self.new ≡ with_esn self.old e }
         ensures size { length self.new ≡ 512 }
     {
-        prove!(e.number() <= 99_999);
+        prove!(e.number() <= HIGHEST_ESN);
         write_field(&mut self.bytes, Field::Esn, &e.text());
     }
 }

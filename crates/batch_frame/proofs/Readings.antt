@@ -12,6 +12,7 @@ use Rattle.ali_base.specs.Company.{company_of, is_company}
 use Rattle.ali_base.specs.Numbers.{cycle_of}
 use Rattle.ali_base.specs.CivilDay.{CivilDay, day_of}
 use Rattle.batch_frame.specs.declared.fault.FrameFault.TheVariants as faults
+use Rattle.batch_frame.specs.declared.fault.TheConstants.{MOST_RECORDS}
 use Rattle.batch_frame.specs.declared.separator.Separator.{Separator}
 use Rattle.batch_frame.specs.declared.separator.Separator.TheVariants.{Bare, Lf, CrLf}
 use Rattle.batch_frame.specs.CarrierFile.{CarrierFile, IsFile, Spells, IsRecord, LooksSeparated, separator_bytes, separator_of, separated, piece_size, record_count, record_at, records_in, all_records, file_in}
@@ -150,10 +151,10 @@ no_length_fault bytes long all =
     let le : nat_le 1_024 n ≡ true = grind (arith, nat_tests) in
     ap (λ b. cond (b && is_whole (separator_of bytes) n) None (Some (faults.Length n))) le ∙ ap (λ b. cond b None (Some (faults.Length n))) all
 
-not_too_many : (bytes : List ℕ) → found bytes ≤ 10_000 → too_many_fault bytes ≡ None
+not_too_many : (bytes : List ℕ) → found bytes ≤ MOST_RECORDS → too_many_fault bytes ≡ None
 unfolding too_many_fault
 not_too_many bytes h =
-    let le : nat_le (found bytes) 10_000 ≡ true = grind (arith, nat_tests) in
+    let le : nat_le (found bytes) MOST_RECORDS ≡ true = grind (arith, nat_tests) in
     ap (λ b. cond b None (Some (faults.TooMany (found bytes)))) le
 
 pub sound_parts : (bytes header trailer : List ℕ) (records : List (List ℕ)) (s : Separator) → IsFile bytes s header records trailer → AreSound header records trailer → frame_fault bytes ≡ None

@@ -12,6 +12,7 @@ use Rattle.batch_frame.specs.declared.separator.Separator.{Separator}
 use Rattle.batch_frame.specs.declared.separator.Separator.TheVariants.{Bare, Lf, CrLf}
 use Rattle.batch_frame.specs.declared.fault.FrameFault.{FrameFault}
 use Rattle.batch_frame.specs.declared.fault.FrameFault.TheVariants as faults
+use Rattle.batch_frame.specs.declared.fault.TheConstants.{MOST_RECORDS}
 use Rattle.batch_frame.specs.CarrierFile.{CarrierFile, IsFile, Spells, IsRecord, separator_bytes, separator_of, separated, piece_size, record_count, record_at, records_in, all_records, file_in}
 use Rattle.batch_frame.specs.FrameFault.{IsRead, is_whole, length_fault, too_many_fault, separator_fault, found, header_of}
 use Rattle.batch_frame.proofs.Cutting.{Followed, drop_none, drop_next, records_in-length, records_in-get, records_in-more, records_in-widths, records_in-append, cut_whole, cut_short, separated-length, cut_separated}
@@ -179,15 +180,15 @@ same_found bytes file r =
     let m = counted file.separator (length bytes) (length file.records + 2) p.sizes in
     ap (λ s. record_count s (length bytes) - 2) r.parts.separator ∙ omega (arith, m, r.count)
 
-few_found : (n : ℕ) (f : FrameFault) → cond (nat_le n 10_000) None (Some f) ≡ None → n ≤ 10_000
+few_found : (n : ℕ) (f : FrameFault) → cond (nat_le n MOST_RECORDS) None (Some f) ≡ None → n ≤ MOST_RECORDS
 few_found n f h = grind (arith, nat_tests)
 
-pub found_few : (bytes : List ℕ) → too_many_fault bytes ≡ None → found bytes ≤ 10_000
+pub found_few : (bytes : List ℕ) → too_many_fault bytes ≡ None → found bytes ≤ MOST_RECORDS
 unfolding too_many_fault
 found_few bytes h = few_found (found bytes) (faults.TooMany (found bytes)) h
 
 -- the number of the records is in range
-pub few : (bytes : List ℕ) (file : CarrierFile) → IsRead bytes file → file.count ≤ 10_000
+pub few : (bytes : List ℕ) (file : CarrierFile) → IsRead bytes file → file.count ≤ MOST_RECORDS
 few bytes file r = omega (arith, found_few bytes (no_fault bytes r.sound).few, same_found bytes file r)
 
 pub lent_record : (s : Separator) (count i : ℕ) (bytes : List ℕ) → 1 ≤ i → i ≤ count → record_at s i bytes ≡ get_or (records_in s count (drop (piece_size s) bytes)) (i - 1) []

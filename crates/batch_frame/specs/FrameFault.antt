@@ -10,6 +10,7 @@ use Rattle.ali_base.specs.CivilDay.{CivilDay, day_of}
 use Rattle.batch_frame.specs.declared.separator.Separator.{Separator}
 use Rattle.batch_frame.specs.declared.fault.FrameFault.{FrameFault}
 use Rattle.batch_frame.specs.declared.fault.FrameFault.TheVariants as faults
+use Rattle.batch_frame.specs.declared.fault.TheConstants.{MOST_RECORDS}
 use Rattle.batch_frame.specs.CarrierFile.{CarrierFile, IsFile, separator_bytes, separator_of, piece_size, record_count, record_at, file_in}
 
 -- the first fault of a list
@@ -43,7 +44,7 @@ abbrev pub found : List ℕ → ℕ
 found bytes = record_count (separator_of bytes) (length bytes) - 2
 
 unfoldable pub too_many_fault : List ℕ → Option FrameFault
-too_many_fault bytes = if nat_le (found bytes) 10_000 then None else Some (faults.TooMany (found bytes))
+too_many_fault bytes = if nat_le (found bytes) MOST_RECORDS then None else Some (faults.TooMany (found bytes))
 
 -- record `number`, from 1, is followed by the separator
 abbrev pub is_followed : Separator → List ℕ → ℕ → Bool
@@ -126,7 +127,7 @@ pub record AreSound (header : List ℕ) (records : List (List ℕ)) (trailer : L
   pub sound_trailer : trailer_fault trailer ≡ None
   pub one_company : company_fault header trailer ≡ None
   pub true_count : count_fault (length records) trailer ≡ None
-  pub few : length records ≤ 10_000
+  pub few : length records ≤ MOST_RECORDS
 
 -- the bytes are a carrier's file without a fault, and this is what it tells
 pub record IsRead (bytes : List ℕ) (file : CarrierFile) : Type 0 where

@@ -1,6 +1,9 @@
 //! The faults of a carrier's file.
 use ali_base::Company;
 
+/// The most records of a file, between the header and the trailer.
+pub const MOST_RECORDS: u32 = 10_000;
+
 /// The first fault of bytes that are no carrier's file, in the order in which faults are tested.
 #[derive(Clone, Copy, Debug, PartialEq, Eq)]
 pub enum FrameFault {

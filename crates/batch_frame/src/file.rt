@@ -3,7 +3,7 @@ ghost use Rattle.std.specs.Prelude.{◌≡◌, ◌≤◌, ◌-◌, [], length, s
 ghost use Rattle.batch_frame.specs.FrameFault.{IsSomeFile, IsRead, frame_fault, file_of};
 ghost use Rattle.batch_frame.specs.Told.{frame_of};
 
-use crate::fault::FrameFault;
+use crate::fault::{FrameFault, MOST_RECORDS};
 use crate::fields::{read_header, read_trailer};
 use crate::framing::{check_length, check_separators, count_records, record_at, separator_of};
 use crate::separator::Separator;
@@ -131,7 +131,7 @@ impl<'a> FileView<'a> {
     pub fn count(&self) -> u32
         ensures value { result ≡ self.now.count }
         ensures records { result ≡ length self.now.records }
-        ensures limit { result ≤ 10_000 }
+        ensures limit { result ≤ MOST_RECORDS }
         ensures sound { IsSomeFile self.now }
     {
         self.count

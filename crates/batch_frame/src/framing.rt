@@ -3,7 +3,7 @@ ghost use Rattle.std.specs.Prelude.{◌≡◌, ◌+◌, ◌*◌, ◌≤◌, ◌^
 ghost use Rattle.batch_frame.specs.CarrierFile.{separator_of, piece_size, record_at};
 ghost use Rattle.batch_frame.specs.FrameFault.{length_fault, too_many_fault, separator_fault, is_followed, is_whole, found};
 
-use crate::fault::FrameFault;
+use crate::fault::{FrameFault, MOST_RECORDS};
 use crate::separator::Separator;
 
 /// The separator that follows the first record.
@@ -45,11 +45,11 @@ pub fn count_records(bytes: &[u8], separator: Separator) -> Result<u32, FrameFau
     requires same { separator ≡ separator_of bytes.now }
     requires sound { length_fault bytes.now ≡ None }
     ensures { MatchResult result
-        (λ count. (too_many_fault bytes.now ≡ None) × (count ≡ found bytes.now) × (count ≤ 10_000))
+        (λ count. (too_many_fault bytes.now ≡ None) × (count ≡ found bytes.now) × (count ≤ MOST_RECORDS))
         (λ fault. too_many_fault bytes.now ≡ Some fault) }
 {
     let count = (bytes.len() + separator.bytes().len()) / separator.piece_size() - 2;
-    if count <= 10_000 {
+    if count <= MOST_RECORDS as usize {
         Ok(count as u32)
     } else {
         Err(FrameFault::TooMany(count as u64))

@@ -5,6 +5,7 @@ use Rattle.std.proofs.lemmas.Bool.Decides.{nat_tests}
 use Rattle.msag_ranges.specs.StreetGuide.{has_parity}
 use Rattle.ali_base.specs.declared.parity.Parity.{Parity}
 use Rattle.ali_base.specs.declared.parity.Parity.TheVariants.{Odd, Even, Both}
+use Rattle.ali_base.specs.declared.house.TheConstants.{HIGHEST_HOUSE}
 use Rattle.number_table.specs.HouseArithmetic.{added, stays_house}
 use Rattle.msag_edits.specs.HouseArithmetic.{is_odd, is_one_parity, last_to, first_above}
 
@@ -84,7 +85,7 @@ pub added-order : (m n : ℕ) (by : ℤ) → m ≤ n → added m by ≤ added n 
 added-order m n (pos d) h = omega arith
 added-order m n (negsuc d) h = omega arith
 
-pub added-limit : (n : ℕ) (by : ℤ) → n ≤ 999_999 → stays_house n by ≡ true → added n by ≤ 999_999
+pub added-limit : (n : ℕ) (by : ℤ) → n ≤ HIGHEST_HOUSE → stays_house n by ≡ true → added n by ≤ HIGHEST_HOUSE
 added-limit n (pos d) h s = grind (arith, nat_tests)
 added-limit n (negsuc d) h s = omega arith
 

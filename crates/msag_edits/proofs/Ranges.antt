@@ -8,6 +8,7 @@ use Rattle.msag_ranges.specs.StreetGuide.{HasSoundEnds, IsSoundGuide, MayStand, 
 use Rattle.msag_ranges.specs.declared.range.Range.{Range}
 use Rattle.ali_base.specs.declared.street_key.StreetKey.{StreetKey}
 use Rattle.ali_base.specs.Steps.{when}
+use Rattle.ali_base.specs.declared.house.TheConstants.{HIGHEST_HOUSE}
 use Rattle.number_table.specs.HouseArithmetic.{added, stays_house}
 use Rattle.msag_edits.specs.HouseArithmetic.{is_odd, is_one_parity, last_to, first_above}
 use Rattle.msag_edits.specs.EditRules.{upper_part, has_empty_part}
@@ -169,11 +170,11 @@ may_stand-lower xs next limit id at r g found low high =
       free = part-free xs next limit id r (moved r r.low (last_to r.parity at) r.esn) g found (lower-part r at r.esn ends low high);
     }
 
-pub upper-limit : (xs : List Range) (next limit id at : ℕ) (r : Range) → IsSoundGuide xs next limit → range_of xs id ≡ Some r → at < r.high → first_above r.parity at ≤ 999_999
+pub upper-limit : (xs : List Range) (next limit id at : ℕ) (r : Range) → IsSoundGuide xs next limit → range_of xs id ≡ Some r → at < r.high → first_above r.parity at ≤ HIGHEST_HOUSE
 upper-limit xs next limit id at r g found high =
     let ends = sound_ends xs next limit id r g found in
     let w = first_above-is r.parity r.high at ends.high_parity high in
-    let top : r.high ≤ 999_999 = All-contains (λ s. s.high ≤ 999_999) xs r g.numbers (live xs id r found).0 in
+    let top : r.high ≤ HIGHEST_HOUSE = All-contains (λ s. s.high ≤ HIGHEST_HOUSE) xs r g.numbers (live xs id r found).0 in
     omega (arith, w.1, top)
 
 -- the two parts share no number

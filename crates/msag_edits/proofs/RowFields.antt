@@ -4,6 +4,8 @@ use Rattle.std.proofs.lemmas.List.{length-take-le}
 use Rattle.ali_base.specs.HouseNumber.{house_of, house_text}
 use Rattle.ali_base.specs.Numbers.{zero_padded}
 use Rattle.ali_base.specs.StreetKey.{street_key}
+use Rattle.ali_base.specs.declared.house.TheConstants.{HIGHEST_HOUSE}
+use Rattle.ali_base.specs.declared.esn.TheConstants.{HIGHEST_ESN}
 use Rattle.ali_record.specs.Layout.{field_of}
 use Rattle.ali_record.specs.Address.{record_key}
 use Rattle.ali_record.specs.FieldChanges.{with_house, with_esn}
@@ -17,20 +19,20 @@ length-over b text p q size inside =
     omega (arith, length-append (take p b ++ text) (drop q b), length-append (take p b) text, length-take-le p b (omega arith), length-drop q b)
 
 -- with another house number
-pub house-size : (b : List ℕ) (n : ℕ) → length b ≡ 512 → n ≤ 999_999 → length (with_house b n) ≡ 512
+pub house-size : (b : List ℕ) (n : ℕ) → length b ≡ 512 → n ≤ HIGHEST_HOUSE → length (with_house b n) ≡ 512
 house-size b n len small =
     let text = house_text n in
     let ten = length-house_text n small in
     length-over b text 11 21 (omega arith) (omega arith) ∙ len
 
-pub house-there : (b : List ℕ) (n : ℕ) → length b ≡ 512 → n ≤ 999_999 → record_house (with_house b n) ≡ Some n
+pub house-there : (b : List ℕ) (n : ℕ) → length b ≡ 512 → n ≤ HIGHEST_HOUSE → record_house (with_house b n) ≡ Some n
 house-there b n len small =
     let text = house_text n in
     let ten = length-house_text n small in
     let field : field_of (with_house b n) HouseNumber ≡ text = ap (λ k. take k (drop 11 (with_house b n))) (sym ten) ∙ part_inside b text 11 21 (omega arith) (omega arith) in
     ap house_of field ∙ house_of-text n small
 
-pub house-key : (b : List ℕ) (n : ℕ) → length b ≡ 512 → n ≤ 999_999 → record_key (with_house b n) ≡ record_key b
+pub house-key : (b : List ℕ) (n : ℕ) → length b ≡ 512 → n ≤ HIGHEST_HOUSE → record_key (with_house b n) ≡ record_key b
 house-key b n len small =
     let text = house_text n in
     let ten = length-house_text n small in
@@ -44,30 +46,30 @@ house-key b n len small =
     ∙ ap (λ f. street_key (field_of b Community) (field_of b State) (field_of b PrefixDirectional) (field_of b StreetName) f (field_of (with_house b n) PostDirectional)) (after 87 4 (omega arith))
     ∙ ap (λ f. street_key (field_of b Community) (field_of b State) (field_of b PrefixDirectional) (field_of b StreetName) (field_of b StreetSuffix) f) (after 91 2 (omega arith))
 
-pub house-esn : (b : List ℕ) (n : ℕ) → length b ≡ 512 → n ≤ 999_999 → field_of (with_house b n) Esn ≡ field_of b Esn
+pub house-esn : (b : List ℕ) (n : ℕ) → length b ≡ 512 → n ≤ HIGHEST_HOUSE → field_of (with_house b n) Esn ≡ field_of b Esn
 house-esn b n len small =
     let ten = length-house_text n small in
     part_after b (house_text n) 11 21 225 5 (omega arith) (omega arith) (omega arith)
 
 -- with another emergency service number
-pub esn-size : (b : List ℕ) (n : ℕ) → length b ≡ 512 → n ≤ 99_999 → length (with_esn b n) ≡ 512
+pub esn-size : (b : List ℕ) (n : ℕ) → length b ≡ 512 → n ≤ HIGHEST_ESN → length (with_esn b n) ≡ 512
 esn-size b n len small =
     let text = zero_padded 5 n in
     let five = length-esn_text n small in
     length-over b text 225 230 (omega arith) (omega arith) ∙ len
 
-pub esn-there : (b : List ℕ) (n : ℕ) → length b ≡ 512 → n ≤ 99_999 → field_of (with_esn b n) Esn ≡ zero_padded 5 n
+pub esn-there : (b : List ℕ) (n : ℕ) → length b ≡ 512 → n ≤ HIGHEST_ESN → field_of (with_esn b n) Esn ≡ zero_padded 5 n
 esn-there b n len small =
     let text = zero_padded 5 n in
     let five = length-esn_text n small in
     ap (λ k. take k (drop 225 (with_esn b n))) (sym five) ∙ part_inside b text 225 230 (omega arith) (omega arith)
 
-pub esn-house : (b : List ℕ) (n : ℕ) → length b ≡ 512 → n ≤ 99_999 → record_house (with_esn b n) ≡ record_house b
+pub esn-house : (b : List ℕ) (n : ℕ) → length b ≡ 512 → n ≤ HIGHEST_ESN → record_house (with_esn b n) ≡ record_house b
 esn-house b n len small =
     let five = length-esn_text n small in
     ap house_of (part_before b (zero_padded 5 n) 225 230 11 10 (omega arith) (omega arith) (omega arith))
 
-pub esn-key : (b : List ℕ) (n : ℕ) → length b ≡ 512 → n ≤ 99_999 → record_key (with_esn b n) ≡ record_key b
+pub esn-key : (b : List ℕ) (n : ℕ) → length b ≡ 512 → n ≤ HIGHEST_ESN → record_key (with_esn b n) ≡ record_key b
 esn-key b n len small =
     let text = zero_padded 5 n in
     let five = length-esn_text n small in

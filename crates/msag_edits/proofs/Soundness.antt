@@ -23,6 +23,8 @@ use Rattle.msag_edits.specs.HouseArithmetic.{is_odd, is_one_parity, last_to}
 use Rattle.ali_record.specs.FieldChanges.{with_house, with_esn}
 use Rattle.ali_base.specs.Numbers.{zero_padded}
 use Rattle.ali_base.specs.StreetKey.{same_key}
+use Rattle.ali_base.specs.declared.house.TheConstants.{HIGHEST_HOUSE}
+use Rattle.ali_base.specs.declared.esn.TheConstants.{HIGHEST_ESN}
 use Rattle.std.specs.Ordering.{eq_by_cmp}
 use Rattle.msag_ranges.proofs.Overlapping.{both, and-true}
 use Rattle.number_table.proofs.HeldAddresses.{stays-between, held-parts, held-from, held-address, held-by, same-address}
@@ -139,7 +141,7 @@ placed-retire g rows id r tn row sound found none has p =
 -- ---- SETESN
 
 -- a row that gets the emergency service number of a range that holds it is placed there
-placed-esn : (ys : List Range) (s : Range) (row : Row) → length row.rec ≡ 512 → s.esn ≤ 99_999 → Contains ys s → holds_row s row ≡ true → IsPlaced ys (record row { rec = with_esn row.rec s.esn })
+placed-esn : (ys : List Range) (s : Range) (row : Row) → length row.rec ≡ 512 → s.esn ≤ HIGHEST_ESN → Contains ys s → holds_row s row ≡ true → IsPlaced ys (record row { rec = with_esn row.rec s.esn })
 placed-esn ys s row size small there held = record {
   size = esn-size row.rec s.esn size small;
   range = s;
@@ -148,7 +150,7 @@ placed-esn ys s row size small there held = record {
   esn = esn-there row.rec s.esn size small;
 }
 
-placed-set_esn : (g : StreetGuide) (rows : NumberTable) (id esn : ℕ) (r : Range) (row : Row) → AreSound g rows → range_of g.ranges id ≡ Some r → esn ≤ 99_999
+placed-set_esn : (g : StreetGuide) (rows : NumberTable) (id esn : ℕ) (r : Range) (row : Row) → AreSound g rows → range_of g.ranges id ≡ Some r → esn ≤ HIGHEST_ESN
     → IsPlaced g.ranges row → IsPlaced (with_moved g.ranges id r.low r.high esn) (esn_row r esn row)
 placed-set_esn g rows id esn r row sound found small p =
     let ys = with_moved g.ranges id r.low r.high esn in
@@ -172,7 +174,7 @@ not_above r new at esn row k h =
     not_both (holds_row s row) (held-by s row.rec n a.1 (and-true _ _ q.0 held)) h) in
     held-by (moved r r.low (last_to r.parity at) r.esn) row.rec n a.1 (and-true _ _ q.0 (held-from (moved r r.low (last_to r.parity at) r.esn) n (w.0, gap.0 below, w.2)))
 
-placed-split : (g : StreetGuide) (rows : NumberTable) (id new at esn : ℕ) (r : Range) (row : Row) → AreSound g rows → range_of g.ranges id ≡ Some r → esn ≤ 99_999
+placed-split : (g : StreetGuide) (rows : NumberTable) (id new at esn : ℕ) (r : Range) (row : Row) → AreSound g rows → range_of g.ranges id ≡ Some r → esn ≤ HIGHEST_ESN
     → IsPlaced g.ranges row
     → IsPlaced (with_moved g.ranges id r.low (last_to r.parity at) r.esn ++ upper_part r new at esn ∷ []) (esn_row (upper_part r new at esn) esn row)
 placed-split g rows id new at esn r row sound found small p =
@@ -214,9 +216,9 @@ placed-renumber g rows id by r row sound found even low high p =
     let same : new ≡ m = ap (λ o. option_map_or (λ n. added n by) o 0) a.1 in
     let q = both (same_key r.key (record_key row.rec)) (is_held r n) a.2 in
     let at = held-parts r n q.1 in
-    let top : r.high ≤ 999_999 = All-contains (λ t. t.high ≤ 999_999) g.ranges r sound.numbers w.0 in
+    let top : r.high ≤ HIGHEST_HOUSE = All-contains (λ t. t.high ≤ HIGHEST_HOUSE) g.ranges r sound.numbers w.0 in
     let stays : stays_house n by ≡ true = stays-between r.low n r.high by at.0 at.1 low high in
-    let small : m ≤ 999_999 = added-limit n by (omega (arith, at.1, top)) stays in
+    let small : m ≤ HIGHEST_HOUSE = added-limit n by (omega (arith, at.1, top)) stays in
     let held : is_held (shifted r by) m ≡ true = held-from (shifted r by) m (added-order r.low n by at.0, added-order n r.high by at.1, added-parity r.parity n by even stays at.2) in
     let size = p.size in
     subst (λ (x : ℕ). IsPlaced ys (record row { rec = with_house row.rec x })) (sym same) (record {
@@ -255,8 +257,8 @@ was_true : (b : Bool) → not b ≡ false → b ≡ true
 was_true true h = refl
 was_true false h = absurd cc
 
-esn-small : (esn : ℕ) → is_esn esn ≡ true → esn ≤ 99_999
-esn-small esn h = let w = both (nat_le 1 esn) (nat_le esn 99_999) h in grind (arith, nat_tests)
+esn-small : (esn : ℕ) → is_esn esn ≡ true → esn ≤ HIGHEST_ESN
+esn-small esn h = let w = both (nat_le 1 esn) (nat_le esn HIGHEST_ESN) h in grind (arith, nat_tests)
 
 retire-done : (g : StreetGuide) (rows after : NumberTable) (id : ℕ) → AreSound g rows → (retire_verdict g rows id).code ≡ 0
     → AreChanged (λ row. row) rows after → ArePlaced (without g.ranges id) after

@@ -6,6 +6,7 @@ use Rattle.msag_ranges.specs.StreetGuide.{StreetGuide, has_parity, least_overlap
 use Rattle.ali_base.specs.declared.parity.Parity.{Parity}
 use Rattle.msag_ranges.specs.declared.range.Range.{Range}
 use Rattle.ali_base.specs.declared.street_key.StreetKey.{StreetKey}
+use Rattle.ali_base.specs.declared.esn.TheConstants.{HIGHEST_ESN}
 use Rattle.msag_edits.specs.declared.edit_verdict.EditVerdict.{EditVerdict}
 use Rattle.number_table.specs.HouseArithmetic.{added, stays_house}
 use Rattle.msag_edits.specs.HouseArithmetic.{is_odd, is_one_parity, last_to, first_above}
@@ -27,7 +28,7 @@ refused code = verdict_of code 0
 
 -- an emergency service number: 1 to 99,999
 abbrev pub is_esn : ℕ → Bool
-is_esn esn = nat_le 1 esn && nat_le esn 99_999
+is_esn esn = nat_le 1 esn && nat_le esn HIGHEST_ESN
 
 -- the ends are in order and of the parity
 abbrev pub are_sound_ends : Parity → ℕ → ℕ → Bool

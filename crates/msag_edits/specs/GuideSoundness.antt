@@ -2,6 +2,7 @@
 use Rattle.std.specs.Prelude.{◌≡◌, ◌≢◌, ℕ, ◌<◌, ◌≤◌, true, List, length, All, AllPairs, IfSome, Contains}
 use Rattle.std.specs.FinMap.{get}
 use Rattle.ali_base.specs.Numbers.{zero_padded}
+use Rattle.ali_base.specs.declared.house.TheConstants.{HIGHEST_HOUSE}
 use Rattle.msag_ranges.specs.StreetGuide.{StreetGuide, HasSoundEnds, Overlap}
 use Rattle.msag_ranges.specs.declared.range.Range.{Range}
 use Rattle.ali_record.specs.Layout.{field_of}
@@ -25,7 +26,7 @@ ArePlaced ranges rows = (tn : List ℕ) → IfSome (get rows tn) (λ row. IsPlac
 -- low is at most high and high at most 999,999, and the ends are of the parity; ids differ and are below the next id; no number of a street is held by two ranges; each row is placed
 pub record AreSound (g : StreetGuide) (rows : NumberTable) : Type 0 where
   pub ends : All HasSoundEnds g.ranges
-  pub numbers : All (λ r. r.high ≤ 999_999) g.ranges
+  pub numbers : All (λ r. r.high ≤ HIGHEST_HOUSE) g.ranges
   pub different : AllPairs (λ r s. r.id ≢ s.id) g.ranges
   pub known : All (λ r. r.id < g.next) g.ranges
   pub apart : AllPairs (λ r s. Overlap r s → ⊥) g.ranges

@@ -5,7 +5,7 @@ ghost use Rattle.number_table.specs.HouseArithmetic.{stays_house};
 ghost use Rattle.msag_edits.specs.HouseArithmetic.{is_odd, is_one_parity, last_to, first_above};
 ghost use Rattle.msag_edits.specs.EditRules.{shifted, has_empty_part};
 
-use ali_base::{House, Parity};
+use ali_base::{HIGHEST_HOUSE, House, Parity};
 use msag_ranges::{Range, has_parity};
 use number_table::added;
 
@@ -48,7 +48,7 @@ pub(crate) fn last_to(parity: Parity, n: House) -> House
 
 /// The least number above `n` that has the parity.
 pub(crate) fn first_above(parity: Parity, n: House) -> House
-    requires { first_above parity n ≤ 999_999 }
+    requires { first_above parity n ≤ HIGHEST_HOUSE }
     ensures { result ≡ first_above parity n }
 {
     let next = n.number() + 1;

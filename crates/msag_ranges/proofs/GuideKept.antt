@@ -14,6 +14,7 @@ use Rattle.std.proofs.lemmas.Bool.Decides.{nat_tests}
 use Rattle.msag_ranges.specs.StreetGuide.{HasSoundEnds, IsSoundGuide, MayStand, Overlap, overlaps, least, least_overlap, is_other, holds, holder, range_of, moved, with_moved, without}
 use Rattle.msag_ranges.specs.declared.range.Range.{Range}
 use Rattle.ali_base.specs.declared.street_key.StreetKey.{StreetKey}
+use Rattle.ali_base.specs.declared.house.TheConstants.{HIGHEST_HOUSE}
 use Rattle.msag_ranges.proofs.Overlapping.{overlaps-there, Overlap-swap}
 
 same_or_not : (a b : ℕ) → (a ≡ b) ⊎ (a ≢ b)
@@ -46,11 +47,11 @@ none-apart : (r s : Range) → (true && overlaps r s) ≡ false → Overlap r s 
 none-apart r s h o = let yes : overlaps r s ≡ true = overlaps-there r s o in cc
 
 -- a new range
-pub sound-add : (ranges : List Range) (next limit : ℕ) (r : Range) → IsSoundGuide ranges next limit → r.id ≡ next → MayStand ranges r None → r.high ≤ 999_999 → length ranges + 1 ≤ limit
+pub sound-add : (ranges : List Range) (next limit : ℕ) (r : Range) → IsSoundGuide ranges next limit → r.id ≡ next → MayStand ranges r None → r.high ≤ HIGHEST_HOUSE → length ranges + 1 ≤ limit
     → IsSoundGuide (ranges ++ r ∷ []) (next + 1) limit
 sound-add ranges next limit r g is stands number room = record {
   ends = All-push HasSoundEnds ranges r g.ends stands.ends;
-  numbers = All-push (λ s. s.high ≤ 999_999) ranges r g.numbers number;
+  numbers = All-push (λ s. s.high ≤ HIGHEST_HOUSE) ranges r g.numbers number;
   rising = all_pairs_push (λ a b. a.id < b.id) ranges r g.rising (λ k d l. let known = g.known k d l in omega arith);
   known = All-push (λ s. (1 ≤ s.id) × (s.id < next + 1)) ranges r (All-weaker (λ s. (1 ≤ s.id) × (s.id < next)) (λ s. (1 ≤ s.id) × (s.id < next + 1)) (λ s h. (h.0, omega (arith, h.1))) ranges g.known) (let first = g.first in (omega arith, omega arith));
   first = omega arith;
@@ -68,7 +69,7 @@ length-filter_le p (x ∷ xs) =
 pub sound-remove : (ranges : List Range) (next limit id : ℕ) → IsSoundGuide ranges next limit → IsSoundGuide (without ranges id) next limit
 sound-remove ranges next limit id g = record {
   ends = All-filter (λ r. not (r.id == id)) HasSoundEnds ranges g.ends;
-  numbers = All-filter (λ r. not (r.id == id)) (λ s. s.high ≤ 999_999) ranges g.numbers;
+  numbers = All-filter (λ r. not (r.id == id)) (λ s. s.high ≤ HIGHEST_HOUSE) ranges g.numbers;
   rising = AllPairs-filter (λ a b. a.id < b.id) (λ r. not (r.id == id)) ranges g.rising;
   known = All-filter (λ r. not (r.id == id)) (λ r. (1 ≤ r.id) × (r.id < next)) ranges g.known;
   first = g.first;
@@ -121,11 +122,11 @@ other-apart id r s ne h o =
     cc
 
 -- a range with other ends
-pub sound-set : (ranges : List Range) (next limit id at : ℕ) (r : Range) → IsSoundGuide ranges next limit → at < length ranges → ((d : Range) → (get_or ranges at d).id ≡ id) → r.id ≡ id → MayStand ranges r (Some id) → r.high ≤ 999_999
+pub sound-set : (ranges : List Range) (next limit id at : ℕ) (r : Range) → IsSoundGuide ranges next limit → at < length ranges → ((d : Range) → (get_or ranges at d).id ≡ id) → r.id ≡ id → MayStand ranges r (Some id) → r.high ≤ HIGHEST_HOUSE
     → IsSoundGuide (set ranges at r) next limit
 sound-set ranges next limit id at r g inside there is stands number = record {
   ends = All-set HasSoundEnds ranges at r stands.ends g.ends;
-  numbers = All-set (λ s. s.high ≤ 999_999) ranges at r number g.numbers;
+  numbers = All-set (λ s. s.high ≤ HIGHEST_HOUSE) ranges at r number g.numbers;
   rising = pairs-set (λ a b. a.id < b.id) ranges at r inside g.rising (λ k d l. let less = g.rising k at d l inside in omega (arith, less, there d)) (λ k d l m. let less = g.rising at k d l m in omega (arith, less, there d));
   known = All-set (λ s. (1 ≤ s.id) × (s.id < next)) ranges at r (let k = g.known at r inside in (omega (arith, k.0, there r), omega (arith, k.1, there r))) g.known;
   first = g.first;
@@ -172,7 +173,7 @@ find-no_place p xs h =
     find_at p xs ∙ slice_get_past xs (position_or_len p xs) past
 
 -- giving the range of an id other ends, where it stands
-pub sound-moved : (xs : List Range) (next limit id low high esn at : ℕ) (r : Range) → IsSoundGuide xs next limit → position (λ s. s.id == id) xs ≡ Some at → r ≡ get_or xs at r → high ≤ 999_999
+pub sound-moved : (xs : List Range) (next limit id low high esn at : ℕ) (r : Range) → IsSoundGuide xs next limit → position (λ s. s.id == id) xs ≡ Some at → r ≡ get_or xs at r → high ≤ HIGHEST_HOUSE
     → IfSome (range_of xs id) (λ s. MayStand xs (moved s low high esn) (Some id))
     → IsSoundGuide (set xs at (moved r low high esn)) next limit × (set xs at (moved r low high esn) ≡ with_moved xs id low high esn)
 sound-moved xs next limit id low high esn at r g place is number stands =

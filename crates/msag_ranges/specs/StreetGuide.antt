@@ -7,6 +7,7 @@ use Rattle.ali_base.specs.declared.parity.Parity.{Parity}
 use Rattle.ali_base.specs.declared.parity.Parity.TheVariants.{Odd, Even, Both}
 use Rattle.msag_ranges.specs.declared.range.Range.{Range}
 use Rattle.ali_base.specs.declared.street_key.StreetKey.{StreetKey}
+use Rattle.ali_base.specs.declared.house.TheConstants.{HIGHEST_HOUSE}
 
 -- the number has the parity
 abbrev pub has_parity : Parity → ℕ → Bool
@@ -88,7 +89,7 @@ pub record StreetGuide : Type 0 where
 -- what every guide keeps: the ends of each range are sound and at most 999,999, the ids rise from 1 and are below the next, no number of a street is held by two ranges, and there are at most the limit
 pub record IsSoundGuide (ranges : List Range) (next limit : ℕ) : Type 0 where
   pub ends : All HasSoundEnds ranges
-  pub numbers : All (λ r. r.high ≤ 999_999) ranges
+  pub numbers : All (λ r. r.high ≤ HIGHEST_HOUSE) ranges
   pub rising : AllPairs (λ r s. r.id < s.id) ranges
   pub known : All (λ r. (1 ≤ r.id) × (r.id < next)) ranges
   pub first : 1 ≤ next

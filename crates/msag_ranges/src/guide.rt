@@ -11,7 +11,7 @@ use crate::guide_fault::GuideFault;
 use crate::held_numbers::{holds, is_between_ends, same_key};
 use crate::overlap::{is_other, overlaps};
 use crate::range::Range;
-use ali_base::{Esn, House, NoMemory, Parity, StreetKey};
+use ali_base::{Esn, HIGHEST_HOUSE, House, NoMemory, Parity, StreetKey};
 use std::alloc::Global;
 use std::marker::Model;
 
@@ -136,7 +136,7 @@ impl Guide {
         } }
         ensures spare { self.old.spare ≤ self.new.spare + 1 }
     {
-        prove!(high.number() <= 999_999);
+        prove!(high.number() <= HIGHEST_HOUSE);
         let id = self.next_id;
         self.ranges.push_reserved(Range {
             id,
@@ -169,7 +169,7 @@ impl Guide {
         ensures after { self.new ≡ record self.old { ranges = with_moved self.old.ranges id low high esn; spare = self.new.spare } }
         ensures spare { self.old.spare ≤ self.new.spare }
     {
-        prove!(high.number() <= 999_999);
+        prove!(high.number() <= HIGHEST_HOUSE);
         if let Some(at) = self.place_of(id) {
             let range = &mut self.ranges[at];
             range.low = low;

@@ -20,6 +20,7 @@ use Rattle.std.proofs.lemmas.Option.{cond_some}
 use Rattle.ali_base.proofs.Steps.{bind_ok, bind_some, some_is}
 use Rattle.office_entry.proofs.Options.{when_true, choose, small_is, small_again}
 use Rattle.office_entry.proofs.FieldBytes.{IsBytes, Takes, Takes-then, Takes-all, front_takes, front_again, number_takes, number_again, key_takes, key_again, HasWidths}
+use Rattle.office_entry.specs.declared.edit.TheConstants.{HIGHEST_SENT}
 
 -- the edit has these bytes
 abbrev Found : List ℕ → Edit → Type 0
@@ -110,7 +111,7 @@ renumber_found bytes e fits h =
     let tb = number_takes a.0.1 b.0 ta.0.fits b.1 in
     let test = cond_some (is_small_difference (cast_signed w32 b.0.0)) (cast_signed w32 b.0.0) by.0 by.1 in
     let small : is_small_difference by.0 ≡ true = subst (λ (z : ℤ). is_small_difference z ≡ true) test.1 test.0 in
-    let le : magnitude by.0 ≤ 999_999 = grind (arith, nat_tests) in
+    let le : magnitude by.0 ≤ HIGHEST_SENT = grind (arith, nat_tests) in
     let back : cast_unsigned w32 (cast_signed w32 b.0.0) ≡ b.0.0 = of_z-to_z w32 b.0.0 tb.1 in
     let two = Takes-then bytes (number_bytes a.0.0) a.0.1 (number_bytes b.0.0) b.0.1 ta.0 tb.0 in
     let whole : 78 ∷ bytes ≡ 78 ∷ (number_bytes a.0.0 ++ number_bytes b.0.0) = ap (λ z. 78 ∷ z) (Takes-all bytes (number_bytes a.0.0 ++ number_bytes b.0.0) b.0.1 two w.0) in
@@ -211,7 +212,7 @@ edit_found (x ∷ fields) e fits h =
 
 -- ---- the bytes of an edit are read as it
 
-difference_again : (d : ℤ) → magnitude d ≤ 999_999 → (cast_unsigned w32 d < 2 ^ 32) × (cast_signed w32 (cast_unsigned w32 d) ≡ d) × (small_difference d ≡ Some d)
+difference_again : (d : ℤ) → magnitude d ≤ HIGHEST_SENT → (cast_unsigned w32 d < 2 ^ 32) × (cast_signed w32 (cast_unsigned w32 d) ≡ d) × (small_difference d ≡ Some d)
 difference_again (pos n) h =
     let test : is_small_difference (pos n) ≡ true = grind (arith, nat_tests) in
     (omega arith, to_z-of_z w32 (pos n) (fits_signed_from_abs w32 (pos n) (omega arith)), when_true (is_small_difference (pos n)) (pos n) test)

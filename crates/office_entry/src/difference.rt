@@ -2,6 +2,7 @@
 ghost use Rattle.std.specs.Prelude.{◌≡◌, ◌≤◌, ℤ, pos};
 ghost use Rattle.office_entry.specs.Differences.{small_difference, magnitude, negative};
 
+use crate::edit::HIGHEST_SENT;
 use ali_base::House;
 use std::marker::Model;
 
@@ -14,12 +15,13 @@ pub struct Difference {
 impl Model for Difference {
     ghost use Rattle.std.specs.Prelude.{ℤ, ◌≤◌};
     ghost use Rattle.office_entry.specs.Differences.{magnitude};
+    ghost use Rattle.office_entry.specs.declared.edit.TheConstants.{HIGHEST_SENT};
 
     ghost Value = { ℤ };
 
     ghost view = { λ d. d.number };
 
-    ghost invariant = { λ d. magnitude d.number ≤ 999_999 };
+    ghost invariant = { λ d. magnitude d.number ≤ HIGHEST_SENT };
 
     ghost inverse = { λ z. record { number = z } };
 }
@@ -29,7 +31,7 @@ impl Difference {
     pub fn new(number: i32) -> Option<Self>
         ensures { result ≡ small_difference number }
     {
-        if -999_999 <= number && number <= 999_999 {
+        if number.unsigned_abs() <= HIGHEST_SENT {
             Some(Difference { number })
         } else {
             None
@@ -60,7 +62,7 @@ impl Difference {
     /// The number, -999,999 to 999,999.
     pub fn number(self) -> i32
         ensures same { result ≡ self }
-        ensures limit { magnitude result ≤ 999_999 }
+        ensures limit { magnitude result ≤ HIGHEST_SENT }
     {
         self.number
     }

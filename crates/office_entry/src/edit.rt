@@ -12,8 +12,11 @@ use crate::esn_sent::EsnSent;
 use crate::fields::EditFields;
 use crate::reading::edit_from;
 use crate::text::edit_of_text;
-use ali_base::{House, Parity};
+use ali_base::{HIGHEST_HOUSE, House, Parity};
 use sha2::{Digest, Sha256};
+
+/// The highest number that an edit sends: house numbers, emergency service numbers and differences.
+pub const HIGHEST_SENT: u32 = HIGHEST_HOUSE;
 
 /// An edit of the street guide.
 #[derive(Clone, Copy, Debug, PartialEq, Eq)]

@@ -2,6 +2,7 @@
 ghost use Rattle.std.specs.Prelude.{◌≡◌, ◌≤◌, nat_le};
 ghost use Rattle.ali_base.specs.Steps.{when};
 
+use crate::edit::HIGHEST_SENT;
 use std::marker::Model;
 
 /// An emergency service number as an edit sends it, 0 to 999,999. The rules of the guide judge
@@ -13,12 +14,13 @@ pub struct EsnSent {
 
 impl Model for EsnSent {
     ghost use Rattle.std.specs.Prelude.{ℕ, ◌≤◌};
+    ghost use Rattle.office_entry.specs.declared.edit.TheConstants.{HIGHEST_SENT};
 
     ghost Value = { ℕ };
 
     ghost view = { λ c. c.number };
 
-    ghost invariant = { λ c. c.number ≤ 999_999 };
+    ghost invariant = { λ c. c.number ≤ HIGHEST_SENT };
 
     ghost inverse = { λ n. record { number = n } };
 }
@@ -26,9 +28,9 @@ impl Model for EsnSent {
 impl EsnSent {
     /// The esn as sent of this number, 0 to 999,999.
     pub fn new(number: u32) -> Option<Self>
-        ensures { result ≡ when (nat_le number 999_999) number }
+        ensures { result ≡ when (nat_le number HIGHEST_SENT) number }
     {
-        if number <= 999_999 {
+        if number <= HIGHEST_SENT {
             Some(EsnSent { number })
         } else {
             None
@@ -38,7 +40,7 @@ impl EsnSent {
     /// The number, 0 to 999,999.
     pub fn number(self) -> u32
         ensures same { result ≡ self }
-        ensures limit { result ≤ 999_999 }
+        ensures limit { result ≤ HIGHEST_SENT }
     {
         self.number
     }

@@ -12,7 +12,7 @@ mod reading;
 mod text;
 
 pub use difference::Difference;
-pub use edit::Edit;
+pub use edit::{Edit, HIGHEST_SENT};
 pub use edit_key::EditKey;
 pub use entry::Entry;
 pub use esn_sent::EsnSent;

@@ -11,6 +11,7 @@ use Rattle.sequence_once.proofs.Runs.{HasRoom, room_left, note_last_length, note
 use Rattle.sequence_once.proofs.Sound.{new_means, own_push, room_for, sound_noted, sound_opened, undone_some}
 use Rattle.sequence_once.proofs.Laws.{last_after_open, others_after_open, others_after_note}
 use Rattle.sequence_once.proofs.Places.{opened_list, noted_at, read_at, place_in_range}
+use Rattle.sequence_once.specs.declared.cycles.TheConstants.{KEPT_CYCLES}
 
 module _ (s : CyclesState) (sound : IsSound s) (c : List ℕ) where
   -- the list is the one after the opening
@@ -27,7 +28,7 @@ module _ (s : CyclesState) (sound : IsSound s) (c : List ℕ) where
   open_known cycle count digest from to f g =
       let own : AllOf c (last_eight (of_company c s.kept ++ opened c cycle count digest ∷ [])) = each_drop _ _ _ (own_push s sound c (opened c cycle count digest) refl) in
       let few : to - from ≡ length (of_company c s.kept) = omega (arith, f, g) in
-      let some : 0 < length (last_eight (of_company c s.kept ++ opened c cycle count digest ∷ [])) = omega (arith, length-drop (length (of_company c s.kept ++ opened c cycle count digest ∷ []) - 8) (of_company c s.kept ++ opened c cycle count digest ∷ []), length-append (of_company c s.kept) (opened c cycle count digest ∷ [])) in
+      let some : 0 < length (last_eight (of_company c s.kept ++ opened c cycle count digest ∷ [])) = omega (arith, length-drop (length (of_company c s.kept ++ opened c cycle count digest ∷ []) - KEPT_CYCLES) (of_company c s.kept ++ opened c cycle count digest ∷ []), length-append (of_company c s.kept) (opened c cycle count digest ∷ [])) in
       rw few (known_some c (last_eight (of_company c s.kept ++ opened c cycle count digest ∷ [])) s.kept sound.sorted own some)
 
   -- a new company is within the limit

@@ -6,6 +6,7 @@ use Rattle.sequence_once.proofs.Order.{by_bytes, same_company}
 use Rattle.sequence_once.proofs.Companies.{AllOf, all_of_company, of_with_same, of_with_lower, of_with_upper}
 use Rattle.sequence_once.proofs.Runs.{newest_more, each_drop, note_last_length, note_last_own}
 use Rattle.sequence_once.proofs.Sound.{own_push}
+use Rattle.sequence_once.specs.declared.cycles.TheConstants.{KEPT_CYCLES}
 
 newest_cons : (x : CycleRecord) (ys : List CycleRecord) → 0 < length ys → newest (x ∷ ys) ≡ newest ys
 newest_cons x [] some = absurd (omega arith)
@@ -56,7 +57,7 @@ module _ (s : CyclesState) (sound : IsSound s) (c : List ℕ) (cycle count : ℕ
   last_after_open =
       let k = opened c cycle count digest in
       let long = length-append (of_company c s.kept) (k ∷ []) in
-      ap newest own_after_open ∙ newest_drop (length (of_company c s.kept ++ k ∷ []) - 8) (of_company c s.kept ++ k ∷ []) (omega (arith, long)) ∙ newest_push (of_company c s.kept) k
+      ap newest own_after_open ∙ newest_drop (length (of_company c s.kept ++ k ∷ []) - KEPT_CYCLES) (of_company c s.kept ++ k ∷ []) (omega (arith, long)) ∙ newest_push (of_company c s.kept) k
 
 module _ (s : CyclesState) (c : List ℕ) (code : ℕ) where
   -- after a line: its code is under the company's last cycle

@@ -10,6 +10,7 @@ use Rattle.std.proofs.lemmas.Bool.Decides.{nat_tests}
 use Rattle.sequence_once.specs.KeptCycles.{CycleRecord, cycle_order, of_company, before_company, after_company, with_company, last_of, last_eight, note_last}
 use Rattle.sequence_once.proofs.Companies.{split}
 use Rattle.sequence_once.proofs.Runs.{note_last_set}
+use Rattle.sequence_once.specs.declared.cycles.TheConstants.{KEPT_CYCLES}
 
 -- three lists, one after another
 module _ {X : Type 0} (a b c : List X) where
@@ -73,24 +74,24 @@ module _ (c : List ℕ) (xs : List CycleRecord) (sorted : IsStrictlySortedBy cyc
       slice_get-get_or (of_company c xs) (length (of_company c xs) - 1) k (omega arith) ∙ ap Some (sym own)
 
 -- nine cycles: the oldest is taken out
-pub dropped : (c : List ℕ) (xs mine : List CycleRecord) (k : CycleRecord) → length mine ≡ 8 → remove (with_company c (mine ++ k ∷ []) xs) (length (before_company c xs)) ≡ with_company c (last_eight (mine ++ k ∷ [])) xs
+pub dropped : (c : List ℕ) (xs mine : List CycleRecord) (k : CycleRecord) → length mine ≡ KEPT_CYCLES → remove (with_company c (mine ++ k ∷ []) xs) (length (before_company c xs)) ≡ with_company c (last_eight (mine ++ k ∷ [])) xs
 dropped c xs [] k e = absurd (omega arith)
 dropped c xs (x ∷ rest) k e =
-    let one : length ((x ∷ rest) ++ k ∷ []) - 8 ≡ 1 = omega (arith, length-append (x ∷ rest) (k ∷ [])) in
+    let one : length ((x ∷ rest) ++ k ∷ []) - KEPT_CYCLES ≡ 1 = omega (arith, length-append (x ∷ rest) (k ∷ [])) in
     rw one (remove_middle (before_company c xs) (rest ++ k ∷ []) (after_company c xs) x)
 
 -- fewer: all stay
-pub kept_all : (mine : List CycleRecord) (k : CycleRecord) → length mine < 8 → last_eight (mine ++ k ∷ []) ≡ mine ++ k ∷ []
+pub kept_all : (mine : List CycleRecord) (k : CycleRecord) → length mine < KEPT_CYCLES → last_eight (mine ++ k ∷ []) ≡ mine ++ k ∷ []
 kept_all mine k lt =
-    let none : length (mine ++ k ∷ []) - 8 ≡ 0 = omega (arith, length-append mine (k ∷ [])) in
+    let none : length (mine ++ k ∷ []) - KEPT_CYCLES ≡ 0 = omega (arith, length-append mine (k ∷ [])) in
     rw none refl
 
 -- the list after an opening, as it is made: a cycle put in, and one taken out where there were eight
-pub opened_list : (c : List ℕ) (xs : List CycleRecord) (sorted : IsStrictlySortedBy cycle_order xs) (k : CycleRecord) (from to : ℕ) → from ≡ length (before_company c xs) → to ≡ length (before_company c xs) + length (of_company c xs) → length (of_company c xs) ≤ 8 → (if to - from == 8 then remove (insert xs to k) from else insert xs to k) ≡ with_company c (last_eight (of_company c xs ++ k ∷ [])) xs
+pub opened_list : (c : List ℕ) (xs : List CycleRecord) (sorted : IsStrictlySortedBy cycle_order xs) (k : CycleRecord) (from to : ℕ) → from ≡ length (before_company c xs) → to ≡ length (before_company c xs) + length (of_company c xs) → length (of_company c xs) ≤ KEPT_CYCLES → (if to - from == 8 then remove (insert xs to k) from else insert xs to k) ≡ with_company c (last_eight (of_company c xs ++ k ∷ [])) xs
 opened_list c xs sorted k from to e f few =
     let count : to - from ≡ length (of_company c xs) = omega (arith, e, f) in
-    rw (count, e, f, opened_at c xs sorted k) (at (length (of_company c xs) == 8) refl)
+    rw (count, e, f, opened_at c xs sorted k) (at (length (of_company c xs) == KEPT_CYCLES) refl)
   where
-    at : (b : Bool) → (length (of_company c xs) == 8) ≡ b → (if b then remove (with_company c (of_company c xs ++ k ∷ []) xs) (length (before_company c xs)) else with_company c (of_company c xs ++ k ∷ []) xs) ≡ with_company c (last_eight (of_company c xs ++ k ∷ [])) xs
+    at : (b : Bool) → (length (of_company c xs) == KEPT_CYCLES) ≡ b → (if b then remove (with_company c (of_company c xs ++ k ∷ []) xs) (length (before_company c xs)) else with_company c (of_company c xs ++ k ∷ []) xs) ≡ with_company c (last_eight (of_company c xs ++ k ∷ [])) xs
     at true g = dropped c xs (of_company c xs) k (grind (arith, nat_tests))
     at false g = ap (λ ys. with_company c ys xs) (sym (kept_all (of_company c xs) k (grind (arith, nat_tests, few))))

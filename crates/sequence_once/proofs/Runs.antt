@@ -9,6 +9,7 @@ use Rattle.sequence_once.specs.CycleStanding.{last_number}
 use Rattle.sequence_once.proofs.Lists.{each_weaker}
 use Rattle.sequence_once.proofs.Order.{by_bytes, same_company}
 use Rattle.sequence_once.proofs.Companies.{AllOf}
+use Rattle.sequence_once.specs.declared.cycles.TheConstants.{KEPT_CYCLES}
 
 pub newest_more : (x y : CycleRecord) (rest : List CycleRecord) → newest (x ∷ y ∷ rest) ≡ newest (y ∷ rest)
 newest_more x y rest =
@@ -34,8 +35,8 @@ each_drop P zero xs h = h
 each_drop P (suc n) [] h = tt
 each_drop P (suc n) (x ∷ xs) h = each_drop P n xs h.1
 
-pub last_eight_few : (xs : List CycleRecord) → length (last_eight xs) ≤ 8
-last_eight_few xs = omega (arith, length-drop (length xs - 8) xs)
+pub last_eight_few : (xs : List CycleRecord) → length (last_eight xs) ≤ KEPT_CYCLES
+last_eight_few xs = omega (arith, length-drop (length xs - KEPT_CYCLES) xs)
 
 -- the numbers of a run rise
 pub rising : (x : CycleRecord) (rest : List CycleRecord) → IsRun (x ∷ rest) → AllByRecursion (λ y. x.cycle < y.cycle) rest

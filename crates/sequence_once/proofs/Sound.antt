@@ -15,6 +15,7 @@ use Rattle.sequence_once.proofs.Lists.{each_append}
 use Rattle.std.proofs.lemmas.Cmp.{tied_itself, nat_list_cmp_total}
 use Rattle.sequence_once.proofs.Companies.{AllOf, all_of_company, of_with, sorted_with, known_some}
 use Rattle.sequence_once.proofs.Runs.{HasRoom, run_push, run_drop, each_drop, last_eight_few, sorted_run, note_last_length, note_last_own, run_note, counts_note}
+use Rattle.sequence_once.specs.declared.cycles.TheConstants.{KEPT_CYCLES}
 
 not_new : (o : Option CycleRecord) (oldest : ℕ) (digest : List ℕ) → earlier o oldest digest ≡ Ok New → ⊥
 not_new None oldest digest e = cc
@@ -62,12 +63,12 @@ unfolding IsStrictlySortedBy
 sound_empty limit = record { sorted = tt; runs = λ c. tt; eight = λ c. omega arith; counts = λ k d lt. absurd (omega arith); within = omega arith }
 
 -- a company's cycles are replaced by a run of at most eight cycles, of which there is one, where there is room for the company
-module _ (s : CyclesState) (sound : IsSound s) (c : List ℕ) (cycles : List CycleRecord) (own : AllOf c cycles) (run : IsRun cycles) (few : length cycles ≤ 8) (counts : All HasRoom cycles) (some : 0 < length cycles) (room : known_companies s.kept + (if length (of_company c s.kept) == 0 then 1 else 0) ≤ s.limit) where
+module _ (s : CyclesState) (sound : IsSound s) (c : List ℕ) (cycles : List CycleRecord) (own : AllOf c cycles) (run : IsRun cycles) (few : length cycles ≤ KEPT_CYCLES) (counts : All HasRoom cycles) (some : 0 < length cycles) (room : known_companies s.kept + (if length (of_company c s.kept) == 0 then 1 else 0) ≤ s.limit) where
   pub sound_replaced : IsSound (record s { kept = with_company c cycles s.kept })
   sound_replaced = record {
     sorted = sorted_with c cycles s.kept sound.sorted (sorted_run c cycles run own) own;
     runs = λ d. of_with c d IsRun cycles s.kept own run (sound.runs d);
-    eight = λ d. of_with c d (λ xs. length xs ≤ 8) cycles s.kept own few (sound.eight d);
+    eight = λ d. of_with c d (λ xs. length xs ≤ KEPT_CYCLES) cycles s.kept own few (sound.eight d);
     counts = All-append HasRoom (before_company c s.kept) _ (All-filter _ HasRoom s.kept sound.counts) (All-append HasRoom cycles (after_company c s.kept) counts (All-filter _ HasRoom s.kept sound.counts));
     within = rw (known_some c cycles s.kept sound.sorted own some) room;
   }
@@ -89,7 +90,7 @@ module _ (s : CyclesState) (sound : IsSound s) (c : List ℕ) where
       (run_drop _ _ (run_push mine k (sound.runs c) next.1 (same_number _ _ next.0)))
       (last_eight_few (mine ++ k ∷ []))
       (All-drop HasRoom _ _ (All-push HasRoom _ k (All-filter _ HasRoom s.kept sound.counts) (omega arith)))
-      (omega (arith, length-drop (length (mine ++ k ∷ []) - 8) (mine ++ k ∷ []), length-append mine (k ∷ [])))
+      (omega (arith, length-drop (length (mine ++ k ∷ []) - KEPT_CYCLES) (mine ++ k ∷ []), length-append mine (k ∷ [])))
       (room_for s c sound facts.1)
 
   -- a line of an unfinished cycle

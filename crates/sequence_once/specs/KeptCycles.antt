@@ -4,6 +4,7 @@ use Rattle.std.specs.declared.cmp.Ordering.{Ordering}
 use Rattle.std.specs.Ordering.{ordering_then, nat_cmp, is_lt, is_eq, is_gt}
 use Rattle.std.specs.Cmp.Lexicographic.{slice_cmp}
 use Rattle.std.specs.List.Sorted.{IsStrictlySortedBy}
+use Rattle.sequence_once.specs.declared.cycles.TheConstants.{KEPT_CYCLES}
 
 -- a cycle of a company: how many lines its file has, the file's digest, and the codes of the lines that are done, in their order
 pub record CycleRecord : Type 0 where
@@ -63,7 +64,7 @@ known_companies (k ∷ rest) = (if is_known k.company rest then 0 else 1) + know
 
 -- the last eight of a company's cycles
 abbrev pub last_eight : List CycleRecord → List CycleRecord
-last_eight cycles = drop (length cycles - 8) cycles
+last_eight cycles = drop (length cycles - KEPT_CYCLES) cycles
 
 -- an opened cycle, with no codes yet
 abbrev pub opened : List ℕ → ℕ → ℕ → List ℕ → CycleRecord
@@ -110,6 +111,6 @@ IsRun (k ∷ rest) = IsFollowed k rest × IsRun rest
 pub record IsSound (s : CyclesState) : Type 0 where
   pub sorted : IsStrictlySortedBy cycle_order s.kept
   pub runs : (company : List ℕ) → IsRun (of_company company s.kept)
-  pub eight : (company : List ℕ) → length (of_company company s.kept) ≤ 8
+  pub eight : (company : List ℕ) → length (of_company company s.kept) ≤ KEPT_CYCLES
   pub counts : All (λ k. length k.codes ≤ k.count) s.kept
   pub within : known_companies s.kept ≤ s.limit

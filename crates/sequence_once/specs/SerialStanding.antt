@@ -4,6 +4,7 @@ use Rattle.std.specs.List.{All}
 use Rattle.std.specs.Str.{bytes_eq}
 use Rattle.std.specs.Borrow.{Bor}
 use Rattle.ali_base.specs.Editors.{IsSerial}
+use Rattle.ali_base.specs.declared.editor.TheConstants.{EDITORS}
 use Rattle.sequence_once.specs.declared.standing.Standing.{Standing}
 use Rattle.sequence_once.specs.declared.standing.Standing.TheVariants.{New, Complete}
 use Rattle.sequence_once.specs.declared.standing.CycleFault.{CycleFault}
@@ -21,14 +22,14 @@ abbrev pub HasSerial : Option EditRecord → Type 0
 HasSerial None = Unit {0}
 HasSerial (Some e) = IsSerial e.serial
 
--- what holds of all kept edits: a place for each of the 64 editors, and serials in range
+-- what holds of all kept edits: a place for each editor, and serials in range
 pub record AreKeptEdits (edits : List (Option EditRecord)) : Type 0 where
-  pub editors : length edits ≡ 64
+  pub editors : length edits ≡ EDITORS
   pub serials : All HasSerial edits
 
 -- no editor has an edit yet
 abbrev pub no_edits : List (Option EditRecord)
-no_edits = replicate 64 None
+no_edits = replicate EDITORS None
 
 -- the last edit of an editor; editor 1 has the first place
 abbrev pub last_edit : ℕ → List (Option EditRecord) → Option EditRecord

@@ -10,9 +10,12 @@ ghost use Rattle.sequence_once.specs.declared.standing.CycleFault.TheVariants.{T
 use crate::cycle_record::CycleRecord;
 use crate::kept::{KeptCycle, Last};
 use crate::standing::{CycleFault, Standing};
-use ali_base::{Company, Cycle, NoMemory};
+use ali_base::{Company, Cycle, LAST_CYCLE, NoMemory};
 use std::alloc::Global;
 use std::marker::Model;
+
+/// How many cycles of a company are kept at most.
+pub const KEPT_CYCLES: usize = 8;
 
 /// The kept cycles of all companies, in the order of company and cycle: at most eight a company,
 /// one after the other, of which all but the last are finished.
@@ -221,7 +224,7 @@ fn standing_among(
 fn last_of(cycles: &[CycleRecord]) -> (u32, bool)
     ensures number { result.0 ≡ last_number (newest cycles.now) }
     ensures finished { result.1 ≡ is_last_finished (newest cycles.now) }
-    ensures low { result.0 ≤ 999_999 }
+    ensures low { result.0 ≤ LAST_CYCLE }
 {
     match cycles.last() {
         Some(last) => (last.cycle().number(), last.is_finished()),
@@ -299,13 +302,13 @@ fn put_cycle(
 ) -> Result<(), NoMemory>
     requires order { from ≤ to }
     requires within { to ≤ length kept.old.items }
-    ensures put { OnOk result (kept.new.items ≡ (if to - from == 8 then remove (insert kept.old.items to fresh) from else insert kept.old.items to fresh)) }
+    ensures put { OnOk result (kept.new.items ≡ (if to - from == KEPT_CYCLES then remove (insert kept.old.items to fresh) from else insert kept.old.items to fresh)) }
     ensures unchanged { OnErr result (kept.new.items ≡ kept.old.items) }
 {
     if kept.insert(to, fresh).is_err() {
         return Err(NoMemory);
     }
-    if to - from == 8 {
+    if to - from == KEPT_CYCLES {
         kept.remove(from);
     }
     Ok(())

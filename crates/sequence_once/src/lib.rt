@@ -10,7 +10,7 @@ mod kept;
 mod serials;
 mod standing;
 
-pub use cycles::Cycles;
+pub use cycles::{Cycles, KEPT_CYCLES};
 pub use hashing::digest;
 pub use kept::{KeptCycle, Last};
 pub use serials::Serials;

@@ -8,7 +8,7 @@ ghost use Rattle.sequence_once.specs.declared.standing.CycleFault.TheVariants.{G
 
 use crate::edit_record::EditRecord;
 use crate::standing::{CycleFault, Standing};
-use ali_base::NoMemory;
+use ali_base::{EDITORS, NoMemory};
 use std::alloc::Global;
 use std::marker::Model;
 
@@ -35,7 +35,7 @@ impl Serials {
     pub fn new(alloc: Global) -> Result<Self, NoMemory>
         ensures { IfOk result (λ s. s ≡ no_edits) }
     {
-        let edits = vec![in alloc; None; 64]?;
+        let edits = vec![in alloc; None; EDITORS as usize]?;
         Ok(Serials { edits })
     }
 
