@@ -1,4 +1,5 @@
 pub mod Digits
 pub mod Trimming
 pub mod PutBytes
+pub mod Puts
 pub mod Steps

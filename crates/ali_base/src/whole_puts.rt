@@ -1,8 +1,5 @@
 //! Putting a whole text.
-ghost use Rattle.std.specs.Prelude.{◌≤◌, OnOk, OnErr};
-ghost use Rattle.std.specs.Io.KnownBytes.{Appends};
-ghost use Rattle.ali_base.specs.Faults.{Rose};
-ghost use Rattle.ali_base.specs.WholePuts.{AppendsPart};
+ghost use Rattle.ali_base.specs.WholePuts.{Puts};
 
 use crate::sink::{Put, Sink};
 
@@ -12,10 +9,7 @@ pub struct SinkFault;
 
 /// Puts the whole text, or stops at a fault with a front of it put.
 pub fn put_all<K: Sink>(sink: &mut K, text: &[u8]) -> Result<(), SinkFault>
-    ensures whole { OnOk result (Appends (K.contents sink.old) (K.contents sink.new) text.now) }
-    ensures part { OnErr result (AppendsPart (K.contents sink.old) (K.contents sink.new) text.now) }
-    ensures later { K.faults sink.old ≤ K.faults sink.new }
-    ensures cause { OnErr result (Rose (K.faults sink.old) (K.faults sink.new)) }
+    ensures put { Puts K.contents K.faults sink.old sink.new text.now result }
 {
     let mut rest = text;
     while !rest.is_empty() {

@@ -1,14 +1,10 @@
 -- The pieces in which the reply to a complete job is put, and that a job that is complete twice gets one reply.
 use Rattle.std.proofs.Common.{◌≡◌, ℕ, ◌==◌, not, List, [], ◌∷◌, ◌++◌, append_assoc, length, ap, sym, ◌∙◌, subst, Option, unwrap_or, Ok}
 use Rattle.std.specs.List.{count_by}
-use Rattle.std.specs.Io.KnownBytes.{Appends}
-use Rattle.std.proofs.KnownBytes.{Appends-trans}
 use Rattle.sha2.specs.Sha256.{sha256}
-use Rattle.ali_base.specs.WholePuts.{AppendsPart}
 use Rattle.batch_frame.specs.CarrierFile.{CarrierFile}
 use Rattle.batch_frame.specs.FrameFault.{file_of}
 use Rattle.error_files.specs.ErrorFile.{error_file}
-use Rattle.error_files.proofs.Fronts.{part_after}
 use Rattle.sequence_once.specs.declared.standing.Standing.TheVariants.{Complete}
 use Rattle.sequence_once.specs.SerialStanding.{EditRecord, last_edit}
 use Rattle.office_entry.specs.declared.edit.Edit.{Edit as GuideEdit}
@@ -25,14 +21,10 @@ use Rattle.batch_desk.specs.declared.reply_line.JobDone.TheVariants as done
 use Rattle.batch_desk.specs.ReplyLines.{done_line, errors_line}
 use Rattle.batch_desk.specs.EditJobs.{edit_standing}
 use Rattle.batch_desk.specs.Jobs.{job_standing}
-use Rattle.batch_desk.specs.JobReplies.{kept_codes, edit_done, done_of, done_block, job_reply}
+use Rattle.batch_desk.specs.JobReplies.{kept_codes, sized, edit_done, done_of, done_block, job_reply}
 use Rattle.batch_desk.proofs.KeptStates.{kept_state}
 use Rattle.batch_desk.proofs.Edits.{same_edit}
 use Rattle.batch_desk.proofs.Files.{old_file}
-
--- an error file with its length before it and the end of a line behind it
-abbrev pub sized : List ℕ → List ℕ
-sized errors = errors_line (length errors) ++ errors ++ 10 ∷ []
 
 -- the line of its length, and then the rest
 pub sized-pieces : (errors line : List ℕ) (len : ℕ) → line ≡ errors_line len → len ≡ length errors → sized errors ≡ line ++ (errors ++ 10 ∷ [])
@@ -47,14 +39,6 @@ reply-pieces s job bytes line of_job file codes of_file told is parts kept =
     ∙ ap (λ (j : Job). line ++ done_block s j) of_file
     ∙ ap (λ (f : CarrierFile). line ++ sized (error_file f (kept_codes s bytes))) (sym parts)
     ∙ ap (λ (cs : List ℕ). line ++ sized (error_file file cs)) (sym kept)
-
--- two pieces
-pub both_put : (text x y : List ℕ) (a b c : Option (List ℕ)) → text ≡ x ++ y → Appends a b x → Appends b c y → Appends a c text
-both_put text x y a b c is first second = subst (Appends a c) (sym is) (Appends-trans a b c x y first second)
-
--- the first, and a front of the second
-pub second_part : (text x y : List ℕ) (a b c : Option (List ℕ)) → text ≡ x ++ y → Appends a b x → AppendsPart b c y → AppendsPart a c text
-second_part text x y a b c is first second = subst (AppendsPart a c) (sym is) (part_after x y a b c first second)
 
 -- the reply to a file depends on the codes that are kept for it alone
 file_same : (s later : State) (bytes : List ℕ) → kept_codes later bytes ≡ kept_codes s bytes → job_reply later (File bytes) ≡ job_reply s (File bytes)

@@ -47,9 +47,13 @@ done_of s (File bytes) =
     done.File (record { company = file.company; cycle = file.cycle; count = file.count; refused = count_by (λ code. not (code == 0)) (kept_codes s bytes) })
 done_of s (Edit editor serial edit) = edit_done editor serial (last_edit editor s.edits)
 
--- what follows the line of a job that is complete: of a file, its error file by the codes that are kept for its cycle, with its length before it and the end of a line behind it
+-- an error file with its length before it and the end of a line behind it
+abbrev pub sized : List ℕ → List ℕ
+sized errors = errors_line (length errors) ++ errors ++ 10 ∷ []
+
+-- what follows the line of a job that is complete: of a file, its error file by the codes that are kept for its cycle
 abbrev pub done_block : State → Job → List ℕ
-done_block s (File bytes) = let errors = error_file (file_of bytes) (kept_codes s bytes) in errors_line (length errors) ++ errors ++ 10 ∷ []
+done_block s (File bytes) = sized (error_file (file_of bytes) (kept_codes s bytes))
 done_block s (Edit editor serial edit) = []
 
 -- the reply to a complete job

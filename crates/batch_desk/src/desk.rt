@@ -1,9 +1,7 @@
 //! The entries of a job, one after the other, and what is told of it.
-ghost use Rattle.std.specs.Prelude.{◌≡◌, ◌==◌, ◌≤◌, not, [], ◌∷◌, ◌++◌, length, count_by, IfOk, Ok, OnOk, OnErr};
-ghost use Rattle.std.specs.Io.KnownBytes.{Appends};
+ghost use Rattle.std.specs.Prelude.{◌≡◌, ◌==◌, ◌≤◌, not, length, count_by, IfOk, Ok};
 ghost use Rattle.ali_base.specs.Editors.{IsEditor};
-ghost use Rattle.ali_base.specs.Faults.{Rose};
-ghost use Rattle.ali_base.specs.WholePuts.{AppendsPart};
+ghost use Rattle.ali_base.specs.WholePuts.{Puts};
 ghost use Rattle.error_files.specs.ErrorFile.{error_file};
 ghost use Rattle.error_files.specs.TextPuts.{PutsText};
 ghost use Rattle.sequence_once.specs.KeptCycles.{IsSound, count_of};
@@ -15,14 +13,13 @@ ghost use Rattle.office_state.specs.Due.{IsDue};
 ghost use Rattle.batch_desk.specs.EditJobs.{edit_standing, next_edit};
 ghost use Rattle.batch_desk.specs.FileJobs.{file_standing, opening, line_entry, is_other_count, with_count, next_by};
 ghost use Rattle.batch_desk.specs.Jobs.{job_standing, next_of, IsReady};
-ghost use Rattle.batch_desk.specs.ReplyLines.{errors_line};
-ghost use Rattle.batch_desk.specs.JobReplies.{read_of, done_of, edit_done, kept_codes, next_line, job_reply};
+ghost use Rattle.batch_desk.specs.JobReplies.{read_of, done_of, edit_done, kept_codes, next_line, sized, job_reply};
 
 use crate::job::{FileJob, Job};
 use crate::reply_line::{EditDone, FileDone, FileRead, JobDone, JobRead, done_line, errors_line};
 use ali_base::{Editor, Serial, Sink, SinkFault, put_all};
 use batch_frame::FileView;
-use error_files::{ErrorsEnd, errors_len, write_errors};
+use error_files::{ErrorsEnd, errors_len, put_error_file};
 use office_entry::{Edit, Entry};
 use office_state::{DueFault, Office};
 use sequence_once::{CycleFault, Standing};
@@ -75,9 +72,7 @@ pub fn job_done(office: &Office, job: &Job) -> JobDone
 /// Puts the reply to a complete job: its line, and of a file the error file with its length before it.
 pub fn desk_reply<K: Sink>(office: &Office, job: &Job, sink: &mut K) -> ErrorsEnd
     requires { job_standing office.now.state job.now ≡ Ok Complete }
-    ensures bytes { PutsText (K.contents sink.old) (K.contents sink.new) (job_reply office.now.state job.now) result }
-    ensures later { K.faults sink.old ≤ K.faults sink.new }
-    ensures cause { result ≡ ErrorsEnd.SinkFault → Rose (K.faults sink.old) (K.faults sink.new) }
+    ensures put { PutsText K.contents K.faults sink.old sink.new (job_reply office.now.state job.now) result }
 {
     match put_reply(office, job, sink) {
         Ok(()) => ErrorsEnd::Done,
@@ -273,14 +268,11 @@ fn count_refused(codes: &[u16]) -> u32
     codes.iter().filter(|code| **code != 0).count() as u32
 }
 
-// Puts the reply to a complete job.
+/// Puts the reply to a complete job, as `desk_reply` does.
 #[tactic(auto, unfolding(crate::specs::JobReplies::job_reply))]
-fn put_reply<K: Sink>(office: &Office, job: &Job, sink: &mut K) -> Result<(), SinkFault>
+pub fn put_reply<K: Sink>(office: &Office, job: &Job, sink: &mut K) -> Result<(), SinkFault>
     requires { job_standing office.now.state job.now ≡ Ok Complete }
-    ensures whole { OnOk result (Appends (K.contents sink.old) (K.contents sink.new) (job_reply office.now.state job.now)) }
-    ensures part { OnErr result (AppendsPart (K.contents sink.old) (K.contents sink.new) (job_reply office.now.state job.now)) }
-    ensures later { K.faults sink.old ≤ K.faults sink.new }
-    ensures cause { OnErr result (Rose (K.faults sink.old) (K.faults sink.new)) }
+    ensures put { Puts K.contents K.faults sink.old sink.new (job_reply office.now.state job.now) result }
 {
     put_all(sink, done_line(&job_done(office, job)).bytes())?;
     match job {
@@ -296,26 +288,9 @@ fn put_sized_errors<K: Sink>(
     sink: &mut K,
 ) -> Result<(), SinkFault>
     requires { length codes.now ≡ file.now.count }
-    ensures whole { let errors = error_file file.now codes.now in OnOk result (Appends (K.contents sink.old) (K.contents sink.new) (errors_line (length errors) ++ errors ++ 10 ∷ [])) }
-    ensures part { let errors = error_file file.now codes.now in OnErr result (AppendsPart (K.contents sink.old) (K.contents sink.new) (errors_line (length errors) ++ errors ++ 10 ∷ [])) }
-    ensures later { K.faults sink.old ≤ K.faults sink.new }
-    ensures cause { OnErr result (Rose (K.faults sink.old) (K.faults sink.new)) }
+    ensures put { Puts K.contents K.faults sink.old sink.new (sized (error_file file.now codes.now)) result }
 {
     put_all(sink, errors_line(errors_len(file, codes)).bytes())?;
-    put_errors(file, codes, sink)?;
+    put_error_file(file, codes, sink)?;
     put_all(sink, b"\n")
-}
-
-// Puts the error file.
-fn put_errors<K: Sink>(file: &FileView<'_>, codes: &[u16], sink: &mut K) -> Result<(), SinkFault>
-    requires { length codes.now ≡ file.now.count }
-    ensures whole { OnOk result (Appends (K.contents sink.old) (K.contents sink.new) (error_file file.now codes.now)) }
-    ensures part { OnErr result (AppendsPart (K.contents sink.old) (K.contents sink.new) (error_file file.now codes.now)) }
-    ensures later { K.faults sink.old ≤ K.faults sink.new }
-    ensures cause { OnErr result (Rose (K.faults sink.old) (K.faults sink.new)) }
-{
-    match write_errors(file, codes, sink) {
-        ErrorsEnd::Done => Ok(()),
-        ErrorsEnd::SinkFault => Err(SinkFault),
-    }
 }

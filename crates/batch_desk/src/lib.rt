@@ -8,7 +8,7 @@ mod laws;
 mod reply_line;
 mod submit;
 
-pub use desk::{desk_reply, job_done, job_read, next_entry};
+pub use desk::{desk_reply, job_done, job_read, next_entry, put_reply};
 pub use job::{FileJob, Job};
 pub use laws::{complete_jobs_repeat, jobs_can_be_completed};
 pub use reply_line::{

@@ -1,5 +1,5 @@
 //! What follows each record of a file.
-ghost use Rattle.std.specs.Prelude.{◌≡◌};
+ghost use Rattle.std.specs.Prelude.{◌≡◌, ◌≤◌, length};
 ghost use Rattle.batch_frame.specs.CarrierFile.{separator_bytes, piece_size};
 
 /// What follows each record of a carrier's file.
@@ -16,7 +16,8 @@ pub enum Separator {
 impl Separator {
     /// Its bytes.
     pub fn bytes(self) -> &'static [u8]
-        ensures { result.now ≡ separator_bytes self }
+        ensures bytes { result.now ≡ separator_bytes self }
+        ensures few { length result.now ≤ 2 }
     {
         match self {
             Separator::Bare => b"",

@@ -1,9 +1,7 @@
 //! The records of an error file.
-ghost use Rattle.std.specs.Prelude.{◌≡◌, ◌++◌, ◌<◌, ◌≤◌, ◌+◌, ◌-◌, ◌^◌, OnOk, OnErr};
-ghost use Rattle.std.specs.Io.KnownBytes.{Appends};
-ghost use Rattle.ali_base.specs.Faults.{Rose};
-ghost use Rattle.ali_base.specs.WholePuts.{AppendsPart};
+ghost use Rattle.std.specs.Prelude.{◌≡◌, ◌++◌, ◌<◌, ◌≤◌, ◌+◌, ◌-◌, ◌^◌, length, take};
 ghost use Rattle.ali_base.specs.Numbers.{zero_padded};
+ghost use Rattle.ali_base.specs.WholePuts.{Puts};
 ghost use Rattle.batch_frame.specs.CarrierFile.{separator_bytes};
 ghost use Rattle.error_files.specs.ErrorFile.{overwritten, refused_record, counted_trailer};
 
@@ -36,17 +34,27 @@ fn overwritten(bytes: &[u8; 512], from: usize, to: usize, number: u32) -> [u8; 5
     changed
 }
 
-/// Puts a record and the separator behind it.
+/// Puts a record and the separator behind it, as one piece.
 pub fn put_record<K: Sink>(
     sink: &mut K,
-    bytes: &[u8],
+    bytes: &[u8; 512],
     separator: Separator,
 ) -> Result<(), SinkFault>
-    ensures whole { OnOk result (Appends (K.contents sink.old) (K.contents sink.new) (bytes.now ++ separator_bytes separator)) }
-    ensures part { OnErr result (AppendsPart (K.contents sink.old) (K.contents sink.new) (bytes.now ++ separator_bytes separator)) }
-    ensures later { K.faults sink.old ≤ K.faults sink.new }
-    ensures cause { OnErr result (Rose (K.faults sink.old) (K.faults sink.new)) }
+    ensures put { Puts K.contents K.faults sink.old sink.new (bytes.now ++ separator_bytes separator) result }
 {
-    put_all(sink, bytes)?;
-    put_all(sink, separator.bytes())
+    let mut piece = [0; 514];
+    let end = write_text(&mut piece, 0, bytes);
+    let end = write_text(&mut piece, end, separator.bytes());
+    put_all(sink, &piece[..end])
+}
+
+// Writes a text after the first `at` bytes of a piece, and answers where it ends.
+fn write_text(piece: &mut [u8; 514], at: usize, text: &[u8]) -> usize
+    requires { at + length text.now ≤ 514 }
+    ensures text { take result piece.new ≡ take at piece.old ++ text.now }
+    ensures end { result ≡ at + length text.now }
+{
+    let end = at + text.len();
+    piece[at..end].copy_from_slice(text);
+    end
 }

@@ -1,8 +1,6 @@
 //! Writing an error file.
-ghost use Rattle.std.specs.Prelude.{◌≡◌, ◌==◌, ◌≤◌, not, count_by, length, OnOk, OnErr, IfOk};
-ghost use Rattle.std.specs.Io.KnownBytes.{Appends};
-ghost use Rattle.ali_base.specs.Faults.{Rose};
-ghost use Rattle.ali_base.specs.WholePuts.{AppendsPart};
+ghost use Rattle.std.specs.Prelude.{◌≡◌, ◌==◌, ◌≤◌, not, count_by, length, IfOk};
+ghost use Rattle.ali_base.specs.WholePuts.{Puts};
 ghost use Rattle.batch_frame.specs.CarrierFile.{separated};
 ghost use Rattle.error_files.specs.ErrorFile.{error_file, refused_records};
 ghost use Rattle.error_files.specs.TextPuts.{PutsText};
@@ -23,9 +21,7 @@ pub enum ErrorsEnd {
 /// Puts the error file of a file whose records have these codes. Takes no memory.
 pub fn write_errors<K: Sink>(file: &FileView<'_>, codes: &[u16], sink: &mut K) -> ErrorsEnd
     requires { length codes.now ≡ file.now.count }
-    ensures bytes { PutsText (K.contents sink.old) (K.contents sink.new) (error_file file.now codes.now) result }
-    ensures later { K.faults sink.old ≤ K.faults sink.new }
-    ensures cause { result ≡ ErrorsEnd.SinkFault → Rose (K.faults sink.old) (K.faults sink.new) }
+    ensures put { PutsText K.contents K.faults sink.old sink.new (error_file file.now codes.now) result }
 {
     match put_error_file(file, codes, sink) {
         Ok(()) => ErrorsEnd::Done,
@@ -33,17 +29,15 @@ pub fn write_errors<K: Sink>(file: &FileView<'_>, codes: &[u16], sink: &mut K) -
     }
 }
 
-// Puts the header, the refused records and the trailer.
-fn put_error_file<K: Sink>(
+/// Puts the error file of a file whose records have these codes: its header, the refused records and
+/// its trailer. Takes no memory.
+pub fn put_error_file<K: Sink>(
     file: &FileView<'_>,
     codes: &[u16],
     sink: &mut K,
 ) -> Result<(), SinkFault>
     requires { length codes.now ≡ file.now.count }
-    ensures whole { OnOk result (Appends (K.contents sink.old) (K.contents sink.new) (error_file file.now codes.now)) }
-    ensures part { OnErr result (AppendsPart (K.contents sink.old) (K.contents sink.new) (error_file file.now codes.now)) }
-    ensures later { K.faults sink.old ≤ K.faults sink.new }
-    ensures cause { OnErr result (Rose (K.faults sink.old) (K.faults sink.new)) }
+    ensures put { Puts K.contents K.faults sink.old sink.new (error_file file.now codes.now) result }
 {
     let separator = file.separator();
     put_record(sink, file.header(), separator)?;
@@ -56,10 +50,7 @@ fn put_error_file<K: Sink>(
 fn put_refused<K: Sink>(file: &FileView<'_>, codes: &[u16], sink: &mut K) -> Result<u32, SinkFault>
     requires { length codes.now ≡ file.now.count }
     ensures count { IfOk result (λ n. (n ≡ length (refused_records file.now.records codes.now)) × (n ≤ 10_000)) }
-    ensures whole { OnOk result (Appends (K.contents sink.old) (K.contents sink.new) (separated file.now.separator (refused_records file.now.records codes.now))) }
-    ensures part { OnErr result (AppendsPart (K.contents sink.old) (K.contents sink.new) (separated file.now.separator (refused_records file.now.records codes.now))) }
-    ensures later { K.faults sink.old ≤ K.faults sink.new }
-    ensures cause { OnErr result (Rose (K.faults sink.old) (K.faults sink.new)) }
+    ensures put { Puts K.contents K.faults sink.old sink.new (separated file.now.separator (refused_records file.now.records codes.now)) result }
 {
     let separator = file.separator();
     let mut refused = 0;
