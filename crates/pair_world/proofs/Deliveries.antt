@@ -1,5 +1,5 @@
 -- What each answer to a shipment leaves.
-use Rattle.std.proofs.Common.{◌≡◌, ℕ, zero, suc, ◌-◌, ◌<◌, ◌≤◌, ◌⊎◌, inl, inr, Bool, true, false, not, cond, ◌&&◌, ◌==◌, nat_lt, List, [], ◌∷◌, ◌++◌, length, take, refl, ap, sym, ◌∙◌, arith, Option, Some, None}
+use Rattle.std.proofs.Common.{◌≡◌, ℕ, zero, suc, ◌-◌, ◌<◌, ◌≤◌, ◌⊎◌, inl, inr, true, false, not, ◌&&◌, ◌==◌, nat_lt, List, [], ◌∷◌, ◌++◌, length, take, refl, ap, sym, ◌∙◌, arith, Option, Some, None}
 use Rattle.std.specs.Prelude.{slice_get}
 use Rattle.std.proofs.lemmas.List.{take_all, length_push}
 use Rattle.std.proofs.lemmas.Bool.Decides.{nat_tests}
@@ -7,8 +7,9 @@ use Rattle.pair_world.specs.Frames.{Frame, epoch_at, Begins, Shares, Agree, Risi
 use Rattle.pair_world.specs.World.{Shipment}
 use Rattle.pair_world.specs.Deliveries.{Answer, Behind, Have, Cut, Stored, Have_end, differs_before, old_next, answer_in}
 use Rattle.pair_world.specs.SoundWorld.{Tells}
-use Rattle.pair_world.proofs.Parts.{OldSuffix, Follows}
-use Rattle.pair_world.proofs.Lists.{Shares-less, Shares-epoch, Begins-Shares, Shares-Begins, Shares-take, Agree-Shares}
+use Rattle.pair_world.proofs.Parts.{UncommittedSuffix, Follows}
+use Rattle.pair_world.proofs.Items.{nth_more, by_test, and_parts}
+use Rattle.pair_world.proofs.Lists.{epoch_is, Shares-less, Shares-epoch, Begins-Shares, Shares-Begins, Shares-take, Agree-Shares}
 
 -- a cut takes the old suffix, and nothing that the two share
 pub record CutFits {E : Type 0} (n : ℕ) (xs ys : List (Frame E)) : Type 0 where
@@ -23,37 +24,12 @@ pub record StoredFits {E : Type 0} (f : Frame E) (xs ys : List (Frame E)) : Type
 
 abbrev pub Fits : {E : Type 0} → ℕ → List (Frame E) → List (Frame E) → Shipment E → Answer E → Type 0
 Fits since xs ys x Behind = Unit {0}
-Fits since xs ys x Have = Shares (suc x.place) xs ys
+Fits since xs ys x Have = Shares (suc x.preceding) xs ys
 Fits since xs ys x (Cut n) = CutFits n xs ys
-Fits since xs ys x (Stored f) = StoredFits f xs ys × (length ys ≡ x.place) × Shares (suc x.place) xs (ys ++ f ∷ [])
-Fits since xs ys x Have_end = Shares x.place xs ys × Begins xs ys
+Fits since xs ys x (Stored f) = StoredFits f xs ys × (length ys ≡ x.preceding) × Shares (suc x.preceding) xs (ys ++ f ∷ [])
+Fits since xs ys x Have_end = Shares x.preceding xs ys × Begins xs ys
 
-pub nth_more : {A : Type 0} (xs : List A) (p : ℕ) (f : A) → slice_get xs p ≡ Some f → (suc p ≤ length xs) × (take (suc p) xs ≡ take p xs ++ f ∷ [])
-nth_more [] p f h = absurd (cc)
-nth_more (x ∷ xs) zero f h = (omega arith, ap (λ z. z ∷ []) (some_is x f h))
-  where
-    some_is : {A : Type 0} (x y : A) → ◌≡◌ {A = Option A} (Some x) (Some y) → x ≡ y
-    some_is x y h = cc
-nth_more (x ∷ xs) (suc p) f h = let r = nth_more xs p f h in (omega arith, ap (λ z. x ∷ z) r.1)
-
-pub epoch_is : {E : Type 0} (xs : List (Frame E)) (p : ℕ) (f : Frame E) → slice_get xs p ≡ Some f → epoch_at xs (suc p) ≡ f.epoch
-epoch_is [] p f h = absurd (cc)
-epoch_is (x ∷ xs) zero f h = some_epoch x f h
-  where
-    some_epoch : {E : Type 0} (x f : Frame E) → ◌≡◌ {A = Option (Frame E)} (Some x) (Some f) → x.epoch ≡ f.epoch
-    some_epoch x f h = cc
-epoch_is (x ∷ xs) (suc p) f h = epoch_is xs p f h
-
-pub by_test : {A : Type 0} (P : A → Type 0) (b : Bool) (s t : A) → (b ≡ true → P s) → (b ≡ false → P t) → P (cond b s t)
-by_test P true s t h k = h refl
-by_test P false s t h k = k refl
-
-pub and_parts : (a b : Bool) → (a && b) ≡ true → (a ≡ true) × (b ≡ true)
-and_parts true true h = (refl, refl)
-and_parts true false h = absurd (cc)
-and_parts false b h = absurd (cc)
-
-module _ {E : Type 0} (since top : ℕ) (xs ys : List (Frame E)) (x : Shipment E) (follows : Follows since xs ys) (agree : Agree xs ys) (rising : Rising top ys) (before : x.before ≡ epoch_at xs x.place) (term : since ≤ x.epoch) where
+module _ {E : Type 0} (since top : ℕ) (xs ys : List (Frame E)) (x : Shipment E) (follows : Follows since xs ys) (agree : Agree xs ys) (rising : Rising top ys) (before : x.before ≡ epoch_at xs x.preceding) (term : since ≤ x.epoch) where
   pub cut_fits : (n : ℕ) → suc n ≤ length ys → (Shares (suc n) xs ys → ⊥) → CutFits n xs ys
   cut_fits n long apart =
       elim follows [
@@ -61,7 +37,7 @@ module _ {E : Type 0} (since top : ℕ) (xs ys : List (Frame E)) (x : Shipment E
         | inr t ↦ by_suffix t
       ]
     where
-      by_suffix : OldSuffix since xs ys → CutFits n xs ys
+      by_suffix : UncommittedSuffix since xs ys → CutFits n xs ys
       by_suffix t =
           elim (cases t) [
             | inl here ↦
@@ -74,24 +50,24 @@ module _ {E : Type 0} (since top : ℕ) (xs ys : List (Frame E)) (x : Shipment E
             | inr less ↦ absurd (apart (Shares-less t.shared less))
           ]
         where
-          cases : (t : OldSuffix since xs ys) → (t.at ≡ n) ⊎ (suc n ≤ t.at)
+          cases : (t : UncommittedSuffix since xs ys) → (t.at ≡ n) ⊎ (suc n ≤ t.at)
           cases t = grind arith
 
           up : (m : ℕ) → (m ≤ n) ⊎ (suc n ≤ m)
           up m = grind arith
 
-  same_before : differs_before ys x ≡ false → epoch_at xs x.place ≡ epoch_at ys x.place
-  same_before h = by_place x.place before h
+  same_before : differs_before ys x ≡ false → epoch_at xs x.preceding ≡ epoch_at ys x.preceding
+  same_before h = by_place x.preceding before h
     where
       by_place : (p : ℕ) → x.before ≡ epoch_at xs p → (nat_lt 0 p && not (epoch_at ys p == x.before)) ≡ false → epoch_at xs p ≡ epoch_at ys p
       by_place zero b h = refl
       by_place (suc p) b h = grind (arith, nat_tests)
 
-  shares_before : differs_before ys x ≡ false → x.place ≤ length xs → x.place ≤ length ys → Shares x.place xs ys
-  shares_before h left right = Agree-Shares agree x.place left right (same_before h)
+  shares_before : differs_before ys x ≡ false → x.preceding ≤ length xs → x.preceding ≤ length ys → Shares x.preceding xs ys
+  shares_before h left right = Agree-Shares agree x.preceding left right (same_before h)
 
-  cut_before : differs_before ys x ≡ true → x.place ≤ length ys → CutFits (x.place - 1) xs ys
-  cut_before h right = by_place x.place before h right
+  cut_before : differs_before ys x ≡ true → x.preceding ≤ length ys → CutFits (x.preceding - 1) xs ys
+  cut_before h right = by_place x.preceding before h right
     where
       by_place : (p : ℕ) → x.before ≡ epoch_at xs p → (nat_lt 0 p && not (epoch_at ys p == x.before)) ≡ true → p ≤ length ys → CutFits (p - 1) xs ys
       by_place zero b h right = absurd (cc)
@@ -99,24 +75,24 @@ module _ {E : Type 0} (since top : ℕ) (xs ys : List (Frame E)) (x : Shipment E
           let e : suc p - 1 ≡ p = omega arith in
           rw e (cut_fits p right (λ s. let k = Shares-epoch s (suc p) (omega arith) in grind (arith, nat_tests)))
 
-  stored_fits : (f : Frame E) → slice_get xs x.place ≡ Some f → length ys ≡ x.place → Shares x.place xs ys → StoredFits f xs ys × (length ys ≡ x.place) × Shares (suc x.place) xs (ys ++ f ∷ [])
+  stored_fits : (f : Frame E) → slice_get xs x.preceding ≡ Some f → length ys ≡ x.preceding → Shares x.preceding xs ys → StoredFits f xs ys × (length ys ≡ x.preceding) × Shares (suc x.preceding) xs (ys ++ f ∷ [])
   stored_fits f says len shared =
-      let n = nth_more xs x.place f says in
-      let front : take x.place xs ≡ ys = shared.front ∙ take_all x.place ys (omega arith) in
-      let more : take (suc x.place) xs ≡ ys ++ f ∷ [] = n.1 ∙ ap (λ z. z ++ f ∷ []) front in
-      let long : length (ys ++ f ∷ []) ≡ suc x.place = omega (arith, length_push ys f) in
-      let whole : Shares (suc x.place) xs (ys ++ f ∷ []) = record { left = n.0; right = omega arith; front = more ∙ sym (take_all (suc x.place) (ys ++ f ∷ []) (omega arith)) } in
+      let n = nth_more xs x.preceding f says in
+      let front : take x.preceding xs ≡ ys = shared.front ∙ take_all x.preceding ys (omega arith) in
+      let more : take (suc x.preceding) xs ≡ ys ++ f ∷ [] = n.1 ∙ ap (λ z. z ++ f ∷ []) front in
+      let long : length (ys ++ f ∷ []) ≡ suc x.preceding = omega (arith, length_push ys f) in
+      let whole : Shares (suc x.preceding) xs (ys ++ f ∷ []) = record { left = n.0; right = omega arith; front = more ∙ sym (take_all (suc x.preceding) (ys ++ f ∷ []) (omega arith)) } in
       (record { before = Shares-Begins shared (sym len); after = Shares-Begins whole (sym long) }, len, whole)
 
-  end_begins : Shares x.place xs ys → old_next ys x ≡ false → Begins xs ys
+  end_begins : Shares x.preceding xs ys → old_next ys x ≡ false → Begins xs ys
   end_begins shared young = elim follows [ inl b ↦ b | inr t ↦ by_suffix t ]
     where
-      by_suffix : OldSuffix since xs ys → Begins xs ys
+      by_suffix : UncommittedSuffix since xs ys → Begins xs ys
       by_suffix t =
           elim (cases t) [
             | inl inside ↦
-                let never = rising.never_fall (suc x.place) (suc t.at) (omega arith) (omega (arith, t.long)) in
-                let least : x.epoch ≤ epoch_at ys (suc x.place) = least_next (omega (arith, t.long)) in
+                let never = rising.never_fall (suc x.preceding) (suc t.at) (omega arith) (omega (arith, t.long)) in
+                let least : x.epoch ≤ epoch_at ys (suc x.preceding) = least_next (omega (arith, t.long)) in
                 absurd (omega (arith, never, least, t.old))
             | inr past ↦
                 let same = Shares-epoch shared (suc t.at) past in
@@ -124,25 +100,25 @@ module _ {E : Type 0} (since top : ℕ) (xs ys : List (Frame E)) (x : Shipment E
                 absurd (omega (arith, same, least, t.old))
           ]
         where
-          cases : (t : OldSuffix since xs ys) → (x.place ≤ t.at) ⊎ (suc t.at ≤ x.place)
+          cases : (t : UncommittedSuffix since xs ys) → (x.preceding ≤ t.at) ⊎ (suc t.at ≤ x.preceding)
           cases t = grind arith
 
-          least_next : suc x.place ≤ length ys → x.epoch ≤ epoch_at ys (suc x.place)
+          least_next : suc x.preceding ≤ length ys → x.epoch ≤ epoch_at ys (suc x.preceding)
           least_next right = grind (arith, nat_tests)
 
-  pub answer_fits : (o : Option (Frame E)) → Tells xs x o → x.place ≤ length ys → Fits since xs ys x (answer_in ys x o)
+  pub answer_fits : (o : Option (Frame E)) → Tells xs x o → x.preceding ≤ length ys → Fits since xs ys x (answer_in ys x o)
   answer_fits (Some f) says fits =
-      let n = nth_more xs x.place f says in
-      by_test (Fits since xs ys x) (nat_lt x.place (length ys)) _ _
+      let n = nth_more xs x.preceding f says in
+      by_test (Fits since xs ys x) (nat_lt x.preceding (length ys)) _ _
       (λ long.
-      let right : suc x.place ≤ length ys = grind (arith, nat_tests) in
-      by_test (Fits since xs ys x) (epoch_at ys (suc x.place) == f.epoch) _ _
-      (λ same. Agree-Shares agree (suc x.place) n.0 right (grind (arith, nat_tests, epoch_is xs x.place f says)))
-      (λ other. cut_fits x.place right (λ s.
-      let k = Shares-epoch s (suc x.place) (omega arith) in
-      grind (arith, nat_tests, epoch_is xs x.place f says))))
+      let right : suc x.preceding ≤ length ys = grind (arith, nat_tests) in
+      by_test (Fits since xs ys x) (epoch_at ys (suc x.preceding) == f.epoch) _ _
+      (λ same. Agree-Shares agree (suc x.preceding) n.0 right (grind (arith, nat_tests, epoch_is xs x.preceding f says)))
+      (λ other. cut_fits x.preceding right (λ s.
+      let k = Shares-epoch s (suc x.preceding) (omega arith) in
+      grind (arith, nat_tests, epoch_is xs x.preceding f says))))
       (λ short.
-      let len : length ys ≡ x.place = grind (arith, nat_tests) in
+      let len : length ys ≡ x.preceding = grind (arith, nat_tests) in
       by_test (Fits since xs ys x) (differs_before ys x) _ _
       (λ differs. cut_before differs fits)
       (λ same. stored_fits f says len (shares_before same (omega arith) fits)))
@@ -153,11 +129,11 @@ module _ {E : Type 0} (since top : ℕ) (xs ys : List (Frame E)) (x : Shipment E
       let shared = shares_before same says.0 fits in
       by_test (Fits since xs ys x) (old_next ys x) _ _
       (λ old.
-      let parts = and_parts (nat_lt x.place (length ys)) (nat_lt (epoch_at ys (suc x.place)) x.epoch) old in
-      let right : suc x.place ≤ length ys = grind (arith, nat_tests, parts.0) in
-      let less : epoch_at ys (suc x.place) < x.epoch = grind (arith, nat_tests, parts.1) in
-      cut_fits x.place right (λ s.
-      let k = Shares-epoch s (suc x.place) (omega arith) in
-      let least = says.1 (suc x.place) (omega arith) s.left in
+      let parts = and_parts (nat_lt x.preceding (length ys)) (nat_lt (epoch_at ys (suc x.preceding)) x.epoch) old in
+      let right : suc x.preceding ≤ length ys = grind (arith, nat_tests, parts.0) in
+      let less : epoch_at ys (suc x.preceding) < x.epoch = grind (arith, nat_tests, parts.1) in
+      cut_fits x.preceding right (λ s.
+      let k = Shares-epoch s (suc x.preceding) (omega arith) in
+      let least = says.1 (suc x.preceding) (omega arith) s.left in
       absurd (omega (arith, k, least, less))))
       (λ young. (shared, end_begins shared young)))

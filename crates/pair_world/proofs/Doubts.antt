@@ -1,5 +1,5 @@
 -- Each step keeps a world in doubt sound: it is the step of each of its choices.
-use Rattle.std.proofs.Common.{◌≡◌, ℕ, zero, suc, ◌<◌, ◌≤◌, Bool, true, false, cond, nat_lt, List, [], ◌∷◌, ◌++◌, length, take, refl, ap, sym, ◌∙◌, subst, arith, Option, Some, None}
+use Rattle.std.proofs.Common.{◌≡◌, ℕ, suc, ◌<◌, ◌≤◌, ◌-◌, Bool, true, false, cond, nat_lt, List, [], ◌∷◌, ◌++◌, length, take, refl, ap, sym, ◌∙◌, subst, arith, Option, Some, None}
 use Rattle.std.specs.Prelude.{slice_get, max}
 use Rattle.std.proofs.lemmas.List.{take_all}
 use Rattle.std.proofs.lemmas.Bool.Decides.{nat_tests}
@@ -9,13 +9,13 @@ use Rattle.ali_base.specs.declared.duty.Mode.{Mode}
 use Rattle.ali_base.specs.declared.duty.Mode.TheVariants.{Both, Alone}
 use Rattle.ali_base.specs.declared.duty.Duty.{Duty}
 use Rattle.pair_world.specs.Frames.{Frame, item_at, epoch_at, Begins, OnItem}
-use Rattle.pair_world.specs.World.{other, is_node, Shipment, Message, Ships, Acks, NodeState, Nodes, node_at, put_node, Resolved, own, known, is_up, with_nodes, with_duty, recovered, SecondJournals, second_at, put_second, World, Choice, choice_at, picked_node, picked_nodes, unrecovered}
+use Rattle.pair_world.specs.World.{other, is_node, Shipment, Message, Ships, Acks, NodeState, Nodes, node_at, put_node, Resolved, own, known, is_up, with_nodes, with_duty, recovered, FailedWrites, failed_write_at, put_failed_write, World, Choice, choice_at, picked_node, picked_nodes, unrecovered}
 use Rattle.pair_world.specs.Deliveries.{answer, journal_after}
-use Rattle.pair_world.specs.Changes.{journal_written, written, shipped, taken_in, delivered, booked_next, new_duty, under, down, stopped, learned_of}
-use Rattle.pair_world.specs.Step.{Event, Write, Ship, Deliver, Drop, Book, Take, Go_alone, Pair_up, Stop, Start, Start_duty, Ask, Bounds, CanWrite, CanStore, CanDeliver, CanTake, CanPair, Does}
+use Rattle.pair_world.specs.Changes.{journal_written, written, shipped, shipment_delivered, delivered, booked_next, new_duty, duty_changed, node_down, stopped, epoch_heard}
+use Rattle.pair_world.specs.Step.{Event, Write, Ship, Deliver, Drop, Book, Take, Go_alone, Pair_up, Stop, Start, Start_duty, Ask, Bounds, CanWrite, CanStore, CanDeliver, CanLeavePair, CanPair, ResolvedStep}
 use Rattle.pair_world.proofs.Parts.{IsKept}
 use Rattle.pair_world.proofs.Lists.{Begins-length}
-use Rattle.pair_world.proofs.Worlds.{on_item}
+use Rattle.pair_world.proofs.Items.{on_item}
 
 module _ {E : Type 0} where
   pub pick_up : (x : Option (List (Frame E))) (b : Bool) (s : NodeState E) → (picked_node x b s).up ≡ s.up
@@ -28,11 +28,11 @@ module _ {E : Type 0} where
   pick_known (Some j) true s = refl
   pick_known (Some j) false s = refl
 
-  pub at_picked : (c : Choice) (o : SecondJournals E) (ns : Nodes E) (n : NodeName) → second_at o n ≡ None → node_at (picked_nodes c o ns) n ≡ node_at ns n
+  pub at_picked : (c : Choice) (o : FailedWrites E) (ns : Nodes E) (n : NodeName) → failed_write_at o n ≡ None → node_at (picked_nodes c o ns) n ≡ node_at ns n
   at_picked c o ns A e = ap (λ z. picked_node z c.a ns.a) e
   at_picked c o ns B e = ap (λ z. picked_node z c.b ns.b) e
 
-  pub picked_put : (c : Choice) (o : SecondJournals E) (ns : Nodes E) (n : NodeName) (s : NodeState E) → second_at o n ≡ None → picked_nodes c o (put_node ns n s) ≡ put_node (picked_nodes c o ns) n s
+  pub picked_put : (c : Choice) (o : FailedWrites E) (ns : Nodes E) (n : NodeName) (s : NodeState E) → failed_write_at o n ≡ None → picked_nodes c o (put_node ns n s) ≡ put_node (picked_nodes c o ns) n s
   picked_put c o ns A s e = ap (λ z. put_node (picked_nodes c o ns) A (picked_node z c.a s)) e
   picked_put c o ns B s e = ap (λ z. put_node (picked_nodes c o ns) B (picked_node z c.b s)) e
 
@@ -42,21 +42,21 @@ module _ {E : Type 0} where
   pick_change (Some j) true s u k = refl
   pick_change (Some j) false s u k = refl
 
-  pub picked_change : (c : Choice) (o : SecondJournals E) (ns : Nodes E) (n : NodeName) (u : Bool) (k : ℕ) → picked_nodes c o (put_node ns n (record { up = u; known = k; journal = (node_at ns n).journal })) ≡ put_node (picked_nodes c o ns) n (record { up = u; known = k; journal = (node_at (picked_nodes c o ns) n).journal })
+  pub picked_change : (c : Choice) (o : FailedWrites E) (ns : Nodes E) (n : NodeName) (u : Bool) (k : ℕ) → picked_nodes c o (put_node ns n (record { up = u; known = k; journal = (node_at ns n).journal })) ≡ put_node (picked_nodes c o ns) n (record { up = u; known = k; journal = (node_at (picked_nodes c o ns) n).journal })
   picked_change c o ns A u k = ap (λ z. put_node (picked_nodes c o ns) A z) (pick_change o.a c.a ns.a u k)
   picked_change c o ns B u k = ap (λ z. put_node (picked_nodes c o ns) B z) (pick_change o.b c.b ns.b u k)
 
-  pub picked_failed : (c : Choice) (o : SecondJournals E) (ns : Nodes E) (n : NodeName) (j : List (Frame E)) (s : NodeState E) → picked_nodes c (put_second o n (Some j)) (put_node ns n s) ≡ put_node (picked_nodes c o ns) n (picked_node (Some j) (choice_at c n) s)
+  pub picked_failed : (c : Choice) (o : FailedWrites E) (ns : Nodes E) (n : NodeName) (j : List (Frame E)) (s : NodeState E) → picked_nodes c (put_failed_write o n (Some j)) (put_node ns n s) ≡ put_node (picked_nodes c o ns) n (picked_node (Some j) (choice_at c n) s)
   picked_failed c o ns A j s = refl
   picked_failed c o ns B j s = refl
 
-  pub sure_put : (o : SecondJournals E) (ns : Nodes E) (n : NodeName) (s : NodeState E) → ((m : NodeName) → (node_at ns m).up ≡ true → second_at o m ≡ None) → (s.up ≡ true → second_at o n ≡ None) → (m : NodeName) → (node_at (put_node ns n s) m).up ≡ true → second_at o m ≡ None
+  pub sure_put : (o : FailedWrites E) (ns : Nodes E) (n : NodeName) (s : NodeState E) → ((m : NodeName) → (node_at ns m).up ≡ true → failed_write_at o m ≡ None) → (s.up ≡ true → failed_write_at o n ≡ None) → (m : NodeName) → (node_at (put_node ns n s) m).up ≡ true → failed_write_at o m ≡ None
   sure_put o ns A s sure here A up = here up
   sure_put o ns A s sure here B up = sure B up
   sure_put o ns B s sure here A up = sure A up
   sure_put o ns B s sure here B up = here up
 
-  pub sure_failed : (o : SecondJournals E) (ns : Nodes E) (n : NodeName) (x : Option (List (Frame E))) (s : NodeState E) → ((m : NodeName) → (node_at ns m).up ≡ true → second_at o m ≡ None) → (s.up ≡ true → x ≡ None) → (m : NodeName) → (node_at (put_node ns n s) m).up ≡ true → second_at (put_second o n x) m ≡ None
+  pub sure_failed : (o : FailedWrites E) (ns : Nodes E) (n : NodeName) (x : Option (List (Frame E))) (s : NodeState E) → ((m : NodeName) → (node_at ns m).up ≡ true → failed_write_at o m ≡ None) → (s.up ≡ true → x ≡ None) → (m : NodeName) → (node_at (put_node ns n s) m).up ≡ true → failed_write_at (put_failed_write o n x) m ≡ None
   sure_failed o ns A x s sure here A up = here up
   sure_failed o ns A x s sure here B up = sure B up
   sure_failed o ns B x s sure here A up = sure A up
@@ -70,6 +70,12 @@ not_up e = absurd (cc)
 
 pub some_duty : (d e : Duty) → ◌≡◌ {A = Option Duty} (Some d) (Some e) → d ≡ e
 some_duty d e h = cc
+
+pub same_journal : {E : Type 0} (n m : NodeName) (ns : Nodes E) (k : ℕ) → (node_at (put_node ns n (record (node_at ns n) { known = k })) m).journal ≡ (node_at ns m).journal
+same_journal A A ns k = refl
+same_journal A B ns k = refl
+same_journal B A ns k = refl
+same_journal B B ns k = refl
 
 -- a node goes down before or after the register is read: the same
 module _ {E : Type 0} where
@@ -85,14 +91,14 @@ module _ {E : Type 0} where
   down_journal B A ns = refl
   down_journal B B ns = refl
 
-  pub recover_down : (y : Resolved E) (d : Duty) (n : NodeName) → recovered (with_duty (down y n) d) ≡ down (recovered (with_duty y d)) n
+  pub recover_down : (y : Resolved E) (d : Duty) (n : NodeName) → recovered (with_duty (node_down y n) d) ≡ node_down (recovered (with_duty y d)) n
   recover_down y d n =
-      ap (λ ns. with_nodes (recovered (with_duty (down y n) d)) ns) (down_and_know n d.holder y.nodes d.epoch)
-      ∙ ap (λ j. record (down (recovered (with_duty y d)) n) { booked = cond (nat_lt (length y.booked) d.floor) (take d.floor j) y.booked }) (down_journal n d.holder y.nodes)
+      ap (λ ns. with_nodes (recovered (with_duty (node_down y n) d)) ns) (down_and_know n d.holder y.nodes d.epoch)
+      ∙ ap (λ j. record (node_down (recovered (with_duty y d)) n) { booked = cond (nat_lt (length y.booked) d.floor) (take d.floor j) y.booked }) (down_journal n d.holder y.nodes)
 
-  pub recover_new : (y : Resolved E) (n : NodeName) (mode : Mode) (h' : List (Frame E)) (f : ℕ) → cond (nat_lt (length y.booked) f) (take f (node_at y.nodes n).journal) y.booked ≡ h' → length h' ≡ f → under y n mode h' ≡ recovered (with_duty y (new_duty y n mode f))
+  pub recover_new : (y : Resolved E) (n : NodeName) (mode : Mode) (h' : List (Frame E)) (f : ℕ) → cond (nat_lt (length y.booked) f) (take f (node_at y.nodes n).journal) y.booked ≡ h' → length h' ≡ f → duty_changed y n mode h' ≡ recovered (with_duty y (new_duty y n mode f))
   recover_new y n mode h' f is len =
-      sym (ap (λ b. record (recovered (with_duty y (new_duty y n mode f))) { booked = b }) is ∙ ap (λ k. record (under y n mode h') { duty = new_duty y n mode k }) (sym len))
+      sym (ap (λ b. record (recovered (with_duty y (new_duty y n mode f))) { booked = b }) is ∙ ap (λ k. record (duty_changed y n mode h') { duty = new_duty y n mode k }) (sym len))
 
   pub longest : (j h : List (Frame E)) → Begins j h → cond (nat_lt (length h) (length j)) (take (length j) j) h ≡ j
   longest j h b = by_length (nat_lt (length h) (length j)) refl
@@ -114,82 +120,82 @@ module _ {E : Type 0} where
 module _ {E : Type 0} (due : List E → E → Type 0) (w : World E) (s : IsKept due w) where
   -- the node's state in a choice, where it is up and there is no doubt of it
   pub own_is : (c : Choice) (n : NodeName) → is_up w.base n → node_at (unrecovered c w).nodes n ≡ node_at w.base.nodes n
-  own_is c n up = at_picked c w.second w.base.nodes n (s.sure n up)
+  own_is c n up = at_picked c w.failed_writes w.base.nodes n (s.one_journal n up)
 
   -- what is known of the node's state in the one is so in the other
   pub to_own : (P : NodeState E → Type 0) (c : Choice) (n : NodeName) → is_up w.base n → P (node_at w.base.nodes n) → P (node_at (unrecovered c w).nodes n)
   to_own P c n up h = subst P (sym (own_is c n up)) h
 
   abbrev pub at_choice : Choice → Resolved E → Resolved E
-  at_choice c u = with_nodes u (picked_nodes c w.second u.nodes)
+  at_choice c u = with_nodes u (picked_nodes c w.failed_writes u.nodes)
 
-  pub up_is : (c : Choice) (n : NodeName) → (node_at (picked_nodes c w.second w.base.nodes) n).up ≡ (node_at w.base.nodes n).up
-  up_is c A = pick_up w.second.a c.a w.base.nodes.a
-  up_is c B = pick_up w.second.b c.b w.base.nodes.b
+  pub up_is : (c : Choice) (n : NodeName) → (node_at (picked_nodes c w.failed_writes w.base.nodes) n).up ≡ (node_at w.base.nodes n).up
+  up_is c A = pick_up w.failed_writes.a c.a w.base.nodes.a
+  up_is c B = pick_up w.failed_writes.b c.b w.base.nodes.b
 
-  pub known_is : (c : Choice) (n : NodeName) → (node_at (picked_nodes c w.second w.base.nodes) n).known ≡ (node_at w.base.nodes n).known
-  known_is c A = pick_known w.second.a c.a w.base.nodes.a
-  known_is c B = pick_known w.second.b c.b w.base.nodes.b
+  pub known_is : (c : Choice) (n : NodeName) → (node_at (picked_nodes c w.failed_writes w.base.nodes) n).known ≡ (node_at w.base.nodes n).known
+  known_is c A = pick_known w.failed_writes.a c.a w.base.nodes.a
+  known_is c B = pick_known w.failed_writes.b c.b w.base.nodes.b
 
   pub written_is : (e : E) (c : Choice) → is_up w.base w.base.duty.holder → at_choice c (written w.base e) ≡ written (unrecovered c w) e
   written_is e c up =
       let x = w.base in
       let h = w.base.duty.holder in
       let state : NodeState E = record (own w.base) { journal = journal_written w.base e } in
-      ap (λ ns. with_nodes (written x e) ns) (picked_put c w.second x.nodes h state (s.sure h up))
-      ∙ ap (λ (st : NodeState E). with_nodes x (put_node (picked_nodes c w.second x.nodes) h (record st { journal = st.journal ++ record { entry = e; epoch = x.duty.epoch } ∷ [] }))) (sym (own_is c h up))
+      ap (λ ns. with_nodes (written x e) ns) (picked_put c w.failed_writes x.nodes h state (s.one_journal h up))
+      ∙ ap (λ (st : NodeState E). with_nodes x (put_node (picked_nodes c w.failed_writes x.nodes) h (record st { journal = st.journal ++ record { entry = e; epoch = x.duty.epoch } ∷ [] }))) (sym (own_is c h up))
 
   shipped_is : (k : ℕ) (c : Choice) → is_up w.base w.base.duty.holder → shipped (unrecovered c w) k ≡ at_choice c (shipped w.base k)
   shipped_is k c up =
       let x = w.base in
       let h = w.base.duty.holder in
-      ap (λ (st : NodeState E). record (unrecovered c w) { messages = x.messages ++ Ships (record { sender = h; epoch = x.duty.epoch; place = k; before = epoch_at st.journal k; frame = slice_get st.journal k }) ∷ [] }) (own_is c h up)
+      ap (λ (st : NodeState E). record (unrecovered c w) { messages = x.messages ++ Ships (record { sender = h; epoch = x.duty.epoch; preceding = k - 1; before = epoch_at st.journal (k - 1); frame = slice_get st.journal (k - 1) }) ∷ [] }) (own_is c h up)
 
   booked_is : (c : Choice) → is_up w.base w.base.duty.holder → booked_next (unrecovered c w) ≡ at_choice c (booked_next w.base)
   booked_is c up = ap (λ (st : NodeState E). record (unrecovered c w) { booked = take (suc (length w.base.booked)) st.journal }) (own_is c w.base.duty.holder up)
 
-  pub taken_in_is : (m : Shipment E) (c : Choice) → is_up w.base (other m.sender) → at_choice c (taken_in w.base m (node_at w.base.nodes (other m.sender))) ≡ taken_in (unrecovered c w) m (node_at (unrecovered c w).nodes (other m.sender))
-  taken_in_is m c up =
+  pub shipment_delivered_is : (m : Shipment E) (c : Choice) → is_up w.base (other m.sender) → at_choice c (shipment_delivered w.base m (node_at w.base.nodes (other m.sender))) ≡ shipment_delivered (unrecovered c w) m (node_at (unrecovered c w).nodes (other m.sender))
+  shipment_delivered_is m c up =
       let x = w.base in
       let r = other m.sender in
       let old = node_at w.base.nodes (other m.sender) in
       let state : NodeState E = record (node_at w.base.nodes (other m.sender)) { known = max (node_at w.base.nodes (other m.sender)).known m.epoch; journal = journal_after (node_at w.base.nodes (other m.sender)).journal (answer (node_at w.base.nodes (other m.sender)).journal m) } in
-      ap (λ ns. with_nodes (taken_in x m old) ns) (picked_put c w.second x.nodes r state (s.sure r up))
-      ∙ ap (λ (st : NodeState E). taken_in (unrecovered c w) m st) (sym (own_is c r up))
+      ap (λ ns. with_nodes (shipment_delivered x m old) ns) (picked_put c w.failed_writes x.nodes r state (s.one_journal r up))
+      ∙ ap (λ (st : NodeState E). shipment_delivered (unrecovered c w) m st) (sym (own_is c r up))
 
-  pub learned_is : (m : Shipment E) (c : Choice) → is_up w.base (other m.sender) → at_choice c (learned_of w.base m) ≡ learned_of (unrecovered c w) m
+  pub learned_is : (m : Shipment E) (c : Choice) → is_up w.base (other m.sender) → at_choice c (epoch_heard w.base m) ≡ epoch_heard (unrecovered c w) m
   learned_is m c up =
       let x = w.base in
       let r = other m.sender in
       let state : NodeState E = record (node_at w.base.nodes (other m.sender)) { known = max (known w.base (other m.sender)) m.epoch } in
-      ap (λ ns. with_nodes x ns) (picked_put c w.second x.nodes r state (s.sure r up))
-      ∙ ap (λ (st : NodeState E). with_nodes x (put_node (picked_nodes c w.second x.nodes) r (record st { known = max st.known m.epoch }))) (sym (own_is c r up))
+      ap (λ ns. with_nodes x ns) (picked_put c w.failed_writes x.nodes r state (s.one_journal r up))
+      ∙ ap (λ (st : NodeState E). with_nodes x (put_node (picked_nodes c w.failed_writes x.nodes) r (record st { known = max st.known m.epoch }))) (sym (own_is c r up))
 
-  pub taken_is : (n : NodeName) (c : Choice) → is_up w.base n → at_choice c (under w.base n Alone (node_at w.base.nodes n).journal) ≡ under (unrecovered c w) n Alone (node_at (unrecovered c w).nodes n).journal
+  pub taken_is : (n : NodeName) (c : Choice) → is_up w.base n → at_choice c (duty_changed w.base n Alone (node_at w.base.nodes n).journal) ≡ duty_changed (unrecovered c w) n Alone (node_at (unrecovered c w).nodes n).journal
   taken_is n c up =
       let x = w.base in
       let state : NodeState E = record (node_at w.base.nodes n) { known = suc w.base.duty.epoch } in
-      ap (λ ns. with_nodes (under x n Alone (node_at x.nodes n).journal) ns) (picked_put c w.second x.nodes n state (s.sure n up))
-      ∙ ap (λ (st : NodeState E). with_nodes (under x n Alone st.journal) (put_node (picked_nodes c w.second x.nodes) n (record st { known = suc x.duty.epoch }))) (sym (own_is c n up))
+      ap (λ ns. with_nodes (duty_changed x n Alone (node_at x.nodes n).journal) ns) (picked_put c w.failed_writes x.nodes n state (s.one_journal n up))
+      ∙ ap (λ (st : NodeState E). with_nodes (duty_changed x n Alone st.journal) (put_node (picked_nodes c w.failed_writes x.nodes) n (record st { known = suc x.duty.epoch }))) (sym (own_is c n up))
 
-  pub same_is : (mode : Mode) (c : Choice) → at_choice c (under w.base w.base.duty.holder mode w.base.booked) ≡ under (unrecovered c w) w.base.duty.holder mode w.base.booked
+  pub same_is : (mode : Mode) (c : Choice) → at_choice c (duty_changed w.base w.base.duty.holder mode w.base.booked) ≡ duty_changed (unrecovered c w) w.base.duty.holder mode w.base.booked
   same_is mode c =
       let x = w.base in
       let h = w.base.duty.holder in
-      ap (λ ns. with_nodes (under x h mode x.booked) ns) (picked_change c w.second x.nodes h (own w.base).up (suc x.duty.epoch))
-      ∙ ap (λ u. with_nodes (under x h mode x.booked) (put_node (picked_nodes c w.second x.nodes) h (record { up = u; known = suc x.duty.epoch; journal = (node_at (picked_nodes c w.second x.nodes) h).journal }))) (sym (up_is c h))
+      ap (λ ns. with_nodes (duty_changed x h mode x.booked) ns) (picked_change c w.failed_writes x.nodes h (own w.base).up (suc x.duty.epoch))
+      ∙ ap (λ u. with_nodes (duty_changed x h mode x.booked) (put_node (picked_nodes c w.failed_writes x.nodes) h (record { up = u; known = suc x.duty.epoch; journal = (node_at (picked_nodes c w.failed_writes x.nodes) h).journal }))) (sym (up_is c h))
 
   -- the choice of a world that went down is the choice, gone down
-  pub down_is : (c : Choice) (n : NodeName) → at_choice c (down w.base n) ≡ down (unrecovered c w) n
+  pub down_is : (c : Choice) (n : NodeName) → at_choice c (node_down w.base n) ≡ node_down (unrecovered c w) n
   down_is c n =
-      ap (λ ns. with_nodes w.base ns) (picked_change c w.second w.base.nodes n false (node_at w.base.nodes n).known)
-      ∙ ap (λ k. with_nodes w.base (put_node (picked_nodes c w.second w.base.nodes) n (record { up = false; known = k; journal = (node_at (picked_nodes c w.second w.base.nodes) n).journal }))) (sym (known_is c n))
+      ap (λ ns. with_nodes w.base ns) (picked_change c w.failed_writes w.base.nodes n false (node_at w.base.nodes n).known)
+      ∙ ap (λ k. with_nodes w.base (put_node (picked_nodes c w.failed_writes w.base.nodes) n (record { up = false; known = k; journal = (node_at (picked_nodes c w.failed_writes w.base.nodes) n).journal }))) (sym (known_is c n))
 
   pub stopped_is : (n : NodeName) (c : Choice) → at_choice c (stopped w.base n) ≡ stopped (unrecovered c w) n
   stopped_is n c = ap (λ (y : Resolved E). record y { acked = cond (is_node n w.base.duty.holder) 0 w.base.acked; ended = cond (is_node n w.base.duty.holder) 0 w.base.ended }) (down_is c n)
 
   delivered_is : (m : Message E) (c : Choice) → CanDeliver w.base m → at_choice c (delivered w.base m) ≡ delivered (unrecovered c w) m
-  delivered_is (Ships x) c g = taken_in_is x c g.up
+  delivered_is (Ships x) c g = shipment_delivered_is x c g.up
   delivered_is (Acks a) c g = refl
 
   pub can_write : (bounds : Bounds) (e : E) (c : Choice) → CanWrite due bounds w.base e → CanWrite due bounds (unrecovered c w) e
@@ -208,14 +214,14 @@ module _ {E : Type 0} (due : List E → E → Type 0) (w : World E) (s : IsKept 
       record {
         up = to_own (λ st. st.up ≡ true) c r g.up g.up;
         not_stale = to_own (λ st. st.known ≤ x.epoch) c r g.up g.not_stale;
-        not_behind = to_own (λ st. x.place ≤ length st.journal) c r g.up g.not_behind;
+        not_behind = to_own (λ st. x.preceding ≤ length st.journal) c r g.up g.not_behind;
       }
 
   can_deliver : (m : Message E) (c : Choice) → CanDeliver w.base m → CanDeliver (unrecovered c w) m
   can_deliver (Ships x) c g = can_store x c g
   can_deliver (Acks a) c g = record { up = to_own (λ st. st.up ≡ true) c a.to g.up g.up; not_stale = g.not_stale }
 
-  pub can_take : (bounds : Bounds) (n : NodeName) (c : Choice) → CanTake bounds w.base n → CanTake bounds (unrecovered c w) n
+  pub can_take : (bounds : Bounds) (n : NodeName) (c : Choice) → CanLeavePair bounds w.base n → CanLeavePair bounds (unrecovered c w) n
   can_take bounds n c g = record { up = to_own (λ st. st.up ≡ true) c n g.up g.up; both = g.both; epochs_left = g.epochs_left }
 
   pub can_pair : (bounds : Bounds) (c : Choice) → CanPair bounds w.base → CanPair bounds (unrecovered c w)
@@ -236,12 +242,11 @@ module _ {E : Type 0} (due : List E → E → Type 0) (w : World E) (s : IsKept 
   on_same o P x is h = subst (λ z. OnItem z P) (sym is) h
 
   -- an event that is done is done in each choice
-  pub same_step : {Q : Type 0} (bounds : Bounds) (e : Event E Q) (u : Resolved E) → Does due bounds w.base e u → (c : Choice) → Does due bounds (unrecovered c w) e (at_choice c u)
+  pub same_step : {Q : Type 0} (bounds : Bounds) (e : Event E Q) (u : Resolved E) → ResolvedStep due bounds w.base e u → (c : Choice) → ResolvedStep due bounds (unrecovered c w) e (at_choice c u)
   same_step bounds (Write e) u g c = (can_write bounds e c g.0, moved c u _ g.1 ∙ written_is e c g.0.up)
-  same_step bounds (Ship zero) u g c = absurd g
-  same_step bounds (Ship (suc place)) u g c =
+  same_step bounds (Ship k) u g c =
       let h = w.base.duty.holder in
-      (record { up = to_own (λ st. st.up ≡ true) c h g.0.up g.0.up; within = to_own (λ st. place ≤ length st.journal) c h g.0.up g.0.within }, moved c u _ g.1 ∙ sym (shipped_is place c g.0.up))
+      (record { up = to_own (λ st. st.up ≡ true) c h g.0.up g.0.up; from = g.0.from; within = to_own (λ st. k ≤ suc (length st.journal)) c h g.0.up g.0.within }, moved c u _ g.1 ∙ sym (shipped_is k c g.0.up))
   same_step bounds (Deliver i) u g c =
       let m = on_item (item_at w.base.messages i) _ g in
       on_same (item_at w.base.messages i) _ m.0 m.1 (can_deliver m.0 c m.2.0, moved c u _ m.2.1 ∙ delivered_is m.0 c m.2.0)

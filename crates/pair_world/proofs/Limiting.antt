@@ -9,18 +9,18 @@ use Rattle.ali_base.specs.declared.duty.Mode.{Mode}
 use Rattle.ali_base.specs.declared.duty.Mode.TheVariants.{Both, Alone}
 use Rattle.ali_base.specs.declared.duty.Duty.{Duty}
 use Rattle.pair_world.specs.Frames.{Frame, item_at, epoch_at, In, without}
-use Rattle.pair_world.specs.World.{other, Shipment, Ack, Message, Ships, Acks, NodeState, Nodes, node_at, put_node, Resolved, first_duty, own, holder_journal, known, with_duty, recovered, opened, formatted, SecondJournals, second_at, put_second, World, picked_node, with_failed_duty, without_doubt}
+use Rattle.pair_world.specs.World.{other, Shipment, Ack, Message, Ships, Acks, NodeState, Nodes, node_at, put_node, Resolved, first_duty, own, holder_journal, known, with_duty, recovered, opened, formatted, FailedWrites, failed_write_at, put_failed_write, World, picked_node, with_failed_duty, without_doubt}
 use Rattle.pair_world.specs.Deliveries.{Answer, Behind, differs_before, old_next, answer_in, answer, journal_after, ack_end, with_ack}
-use Rattle.pair_world.specs.Changes.{journal_written, written, shipment, shipped, heard, delivered, booked_next, new_duty, under, down, stopped, started, register_started, learned_of, fallen, write_failed, register_failed}
-use Rattle.pair_world.specs.Step.{Event, Write, Ship, Deliver, Drop, Book, Take, Go_alone, Pair_up, Stop, Start, Start_duty, Ask, Outcome, Done, Answered, Refused, Faulted, Halted, Bounds, Does, Completes, Answers, IsBehind, OnShipment, LearnsOnly, FailsToStore, Fails, Halts, Step, Turn, Runs}
+use Rattle.pair_world.specs.Changes.{journal_written, written, shipment, shipped, ack_delivered, delivered, booked_next, new_duty, duty_changed, node_down, stopped, started, register_started, epoch_heard, read_failed, write_failed, register_failed}
+use Rattle.pair_world.specs.Step.{Event, Write, Ship, Deliver, Drop, Book, Take, Go_alone, Pair_up, Stop, Start, Start_duty, Ask, Outcome, Done, Answered, Refused, Faulted, Halted, Bounds, ResolvedStep, WorldStep, OnShipment, HearsEpoch, FailsToStore, Fails, Halts, Step, Turn, Runs}
 use Rattle.pair_world.specs.Limits.{IsEpoch, IsJournal, IsShipment, IsAck, IsWithin}
-use Rattle.pair_world.proofs.Deliveries.{nth_more, epoch_is, by_test}
-use Rattle.pair_world.proofs.Moves.{In-append, In-without, slice_get-take, slice_push}
-use Rattle.pair_world.proofs.Worlds.{on_item, in_item}
+use Rattle.pair_world.proofs.Items.{by_test, nth_more, on_item, in_item, In-append, In-without, slice_get-take, slice_push}
+use Rattle.pair_world.proofs.Lists.{epoch_is}
+use Rattle.pair_world.proofs.StepKinds.{world_step, answer_same, hears}
 
 pub record Within {E : Type 0} (bounds : Bounds) (w : World E) : Type 0 where
   pub firsts : (n : NodeName) → IsJournal bounds (node_at w.base.nodes n).journal
-  pub seconds : (n : NodeName) (j : List (Frame E)) → second_at w.second n ≡ Some j → IsJournal bounds j
+  pub seconds : (n : NodeName) (j : List (Frame E)) → failed_write_at w.failed_writes n ≡ Some j → IsJournal bounds j
   pub epoch : IsEpoch bounds w.base.duty.epoch
   pub failed : (d : Duty) → w.failed_duty ≡ Some d → IsEpoch bounds d.epoch
   pub ships : (x : Shipment E) → In w.base.messages (Ships x) → IsShipment bounds x
@@ -70,11 +70,11 @@ put_len bounds ns A st here all B = all B
 put_len bounds ns B st here all A = all A
 put_len bounds ns B st here all B = here
 
-put_second_len : {E : Type 0} (bounds : Bounds) (o : SecondJournals E) (n : NodeName) (x : Option (List (Frame E))) → ((j : List (Frame E)) → x ≡ Some j → IsJournal bounds j) → ((m : NodeName) (j : List (Frame E)) → second_at o m ≡ Some j → IsJournal bounds j) → (m : NodeName) (j : List (Frame E)) → second_at (put_second o n x) m ≡ Some j → IsJournal bounds j
-put_second_len bounds o A x here all A = here
-put_second_len bounds o A x here all B = all B
-put_second_len bounds o B x here all A = all A
-put_second_len bounds o B x here all B = here
+put_failed_write_len : {E : Type 0} (bounds : Bounds) (o : FailedWrites E) (n : NodeName) (x : Option (List (Frame E))) → ((j : List (Frame E)) → x ≡ Some j → IsJournal bounds j) → ((m : NodeName) (j : List (Frame E)) → failed_write_at o m ≡ Some j → IsJournal bounds j) → (m : NodeName) (j : List (Frame E)) → failed_write_at (put_failed_write o n x) m ≡ Some j → IsJournal bounds j
+put_failed_write_len bounds o A x here all A = here
+put_failed_write_len bounds o A x here all B = all B
+put_failed_write_len bounds o B x here all A = all A
+put_failed_write_len bounds o B x here all B = here
 
 module _ {E : Type 0} (bounds : Bounds) where
   take_len : (n : ℕ) (xs : List (Frame E)) → IsJournal bounds xs → IsJournal bounds (take n xs)
@@ -97,27 +97,27 @@ module _ {E : Type 0} (bounds : Bounds) where
 answer_len : {E : Type 0} (bounds : Bounds) (journal : List (Frame E)) (x : Shipment E) → IsJournal bounds journal → IsShipment bounds x → IsJournal bounds (journal_after journal (answer journal x))
 unfolding answer
 answer_len {E} bounds journal x h told =
-    by_test P (nat_lt (length journal) x.place) Behind (answer_in journal x x.frame)
+    by_test P (nat_lt (length journal) x.preceding) Behind (answer_in journal x x.frame)
     (λ behind. h)
     (λ not_behind. by_frame x.frame refl not_behind)
   where
     P : Answer E → Type 0
     P a = IsJournal bounds (journal_after journal a)
 
-    by_frame : (o : Option (Frame E)) → x.frame ≡ o → nat_lt (length journal) x.place ≡ false → IsJournal bounds (journal_after journal (answer_in journal x o))
+    by_frame : (o : Option (Frame E)) → x.frame ≡ o → nat_lt (length journal) x.preceding ≡ false → IsJournal bounds (journal_after journal (answer_in journal x o))
     by_frame (Some f) is not_behind =
-        by_test (λ (a : Answer E). IsJournal bounds (journal_after journal a)) (nat_lt x.place (length journal)) _ _
-        (λ long. by_test (λ (a : Answer E). IsJournal bounds (journal_after journal a)) (epoch_at journal (suc x.place) == f.epoch) _ _ (λ same. h) (λ apart. take_len bounds x.place journal h))
+        by_test (λ (a : Answer E). IsJournal bounds (journal_after journal a)) (nat_lt x.preceding (length journal)) _ _
+        (λ long. by_test (λ (a : Answer E). IsJournal bounds (journal_after journal a)) (epoch_at journal (suc x.preceding) == f.epoch) _ _ (λ same. h) (λ apart. take_len bounds x.preceding journal h))
         (λ short. by_test (λ (a : Answer E). IsJournal bounds (journal_after journal a)) (differs_before journal x) _ _
-        (λ differs. take_len bounds (x.place - 1) journal h)
+        (λ differs. take_len bounds (x.preceding - 1) journal h)
         (λ same.
         let less = told.room f is in
-        let len : length journal ≤ x.place = grind (arith, nat_tests) in
+        let len : length journal ≤ x.preceding = grind (arith, nat_tests) in
         push_len bounds journal f (omega arith) (told.frame f is) h))
     by_frame None is not_behind =
         by_test (λ (a : Answer E). IsJournal bounds (journal_after journal a)) (differs_before journal x) _ _
-        (λ differs. take_len bounds (x.place - 1) journal h)
-        (λ same. by_test (λ (a : Answer E). IsJournal bounds (journal_after journal a)) (old_next journal x) _ _ (λ old. take_len bounds x.place journal h) (λ young. h))
+        (λ differs. take_len bounds (x.preceding - 1) journal h)
+        (λ same. by_test (λ (a : Answer E). IsJournal bounds (journal_after journal a)) (old_next journal x) _ _ (λ old. take_len bounds x.preceding journal h) (λ young. h))
 
 module _ {E : Type 0} (due : List E → E → Type 0) (bounds : Bounds) (w : World E) (h : Within bounds w) where
   -- a world with this base and otherwise the same
@@ -127,21 +127,21 @@ module _ {E : Type 0} (due : List E → E → Type 0) (bounds : Bounds) (w : Wor
   put_same : (n : NodeName) (up : Bool) (k : ℕ) → (m : NodeName) → IsJournal bounds (node_at (put_node w.base.nodes n (record { up = up; known = k; journal = (node_at w.base.nodes n).journal })) m).journal
   put_same n up k = put_len bounds w.base.nodes n (record { up = up; known = k; journal = (node_at w.base.nodes n).journal }) (h.firsts n) h.firsts
 
-  has_room : (place : ℕ) → place ≤ length (holder_journal w.base) → IsShipment bounds (shipment w.base place)
-  has_room place fits =
+  has_room : (k : ℕ) → 0 < k → k ≤ suc (length (holder_journal w.base)) → IsShipment bounds (shipment w.base k)
+  has_room k low fits =
       let top = (h.firsts w.base.duty.holder).room in
       record {
         epoch = h.epoch;
         end = omega arith;
-        room = λ f is. (let inside = (nth_more (holder_journal w.base) place f is).0 in omega arith);
-        frame = λ f is. (h.firsts w.base.duty.holder).epochs place f is;
+        room = λ f is. (let inside = (nth_more (holder_journal w.base) (k - 1) f is).0 in omega arith);
+        frame = λ f is. (h.firsts w.base.duty.holder).epochs (k - 1) f is;
         first = λ is. ap (epoch_at (holder_journal w.base)) is;
-        later = λ far. by_place place far fits;
+        later = λ far. by_index (k - 1) far (omega arith);
       }
     where
-      by_place : (p : ℕ) → 0 < p → p ≤ length (holder_journal w.base) → IsEpoch bounds (epoch_at (holder_journal w.base) p)
-      by_place zero far fits = absurd (omega arith)
-      by_place (suc p) far fits =
+      by_index : (p : ℕ) → 0 < p → p ≤ length (holder_journal w.base) → IsEpoch bounds (epoch_at (holder_journal w.base) p)
+      by_index zero far fits = absurd (omega arith)
+      by_index (suc p) far fits =
           let f = get_some (holder_journal w.base) p (omega arith) in
           subst (IsEpoch bounds) (sym (epoch_is (holder_journal w.base) p f.0 f.1)) ((h.firsts w.base.duty.holder).epochs p f.0 f.1)
 
@@ -159,16 +159,16 @@ module _ {E : Type 0} (due : List E → E → Type 0) (bounds : Bounds) (w : Wor
 
   with_ack_ships : (y : Shipment E) (o : Option Bool) (x : Shipment E) → In (with_ack y o w.base.messages) (Ships x) → IsShipment bounds x
   with_ack_ships y None x i = h.ships x i
-  with_ack_ships y (Some end) x i = elim (In-append w.base.messages (Acks (record { to = y.sender; epoch = y.epoch; place = y.place; end = end })) (Ships x) i) [
+  with_ack_ships y (Some end) x i = elim (In-append w.base.messages (Acks (record { to = y.sender; epoch = y.epoch; preceding = y.preceding; end = end })) (Ships x) i) [
     | inl old ↦ h.ships x old
-    | inr e ↦ absurd (ack_is_none (record { to = y.sender; epoch = y.epoch; place = y.place; end = end }) x e)
+    | inr e ↦ absurd (ack_is_none (record { to = y.sender; epoch = y.epoch; preceding = y.preceding; end = end }) x e)
   ]
 
   with_ack_acks : (y : Shipment E) → IsShipment bounds y → (o : Option Bool) (a : Ack) → In (with_ack y o w.base.messages) (Acks a) → IsAck bounds a
   with_ack_acks y told None a i = h.acks a i
-  with_ack_acks y told (Some end) a i = elim (In-append w.base.messages (Acks (record { to = y.sender; epoch = y.epoch; place = y.place; end = end })) (Acks a) i) [
+  with_ack_acks y told (Some end) a i = elim (In-append w.base.messages (Acks (record { to = y.sender; epoch = y.epoch; preceding = y.preceding; end = end })) (Acks a) i) [
     | inl old ↦ h.acks a old
-    | inr e ↦ subst (IsAck bounds) (ack_is (record { to = y.sender; epoch = y.epoch; place = y.place; end = end }) a e) (record { epoch = told.epoch; end = told.end })
+    | inr e ↦ subst (IsAck bounds) (ack_is (record { to = y.sender; epoch = y.epoch; preceding = y.preceding; end = end }) a e) (record { epoch = told.epoch; end = told.end })
   ]
 
   written_len : (e : E) → length (holder_journal w.base) < bounds.frames → IsJournal bounds (journal_written w.base e)
@@ -177,11 +177,11 @@ module _ {E : Type 0} (due : List E → E → Type 0) (bounds : Bounds) (w : Wor
   next_epoch : w.base.duty.epoch < bounds.last_epoch → IsEpoch bounds (suc w.base.duty.epoch)
   next_epoch left = record { from = omega arith; to = omega arith }
 
-  under_within : (n : NodeName) (mode : Mode) (history : List (Frame E)) → w.base.duty.epoch < bounds.last_epoch → Within bounds (record w { base = under w.base n mode history })
-  under_within n mode history left = based (under w.base n mode history) (put_same n (node_at w.base.nodes n).up (suc w.base.duty.epoch)) (next_epoch left) h.ships h.acks
+  duty_changed_within : (n : NodeName) (mode : Mode) (history : List (Frame E)) → w.base.duty.epoch < bounds.last_epoch → Within bounds (record w { base = duty_changed w.base n mode history })
+  duty_changed_within n mode history left = based (duty_changed w.base n mode history) (put_same n (node_at w.base.nodes n).up (suc w.base.duty.epoch)) (next_epoch left) h.ships h.acks
 
   delivered_within : (m : Message E) → In w.base.messages m → Within bounds (record w { base = delivered w.base m })
-  delivered_within (Acks a) i = based (heard w.base a) h.firsts h.epoch h.ships h.acks
+  delivered_within (Acks a) i = based (ack_delivered w.base a) h.firsts h.epoch h.ships h.acks
   delivered_within (Ships x) i =
       let r = other x.sender in
       let st : NodeState E = record (node_at w.base.nodes (other x.sender)) { known = max (node_at w.base.nodes (other x.sender)).known x.epoch; journal = journal_after (node_at w.base.nodes (other x.sender)).journal (answer (node_at w.base.nodes (other x.sender)).journal x) } in
@@ -192,21 +192,20 @@ module _ {E : Type 0} (due : List E → E → Type 0) (bounds : Bounds) (w : Wor
   as_it_is : (v u : World E) → v ≡ u → Within bounds u → Within bounds v
   as_it_is v u e k = subst (Within bounds) (sym e) k
 
-  does_within : {Q : Type 0} (e : Event E Q) (u : Resolved E) → Does due bounds w.base e u → Within bounds (record w { base = u })
+  does_within : {Q : Type 0} (e : Event E Q) (u : Resolved E) → ResolvedStep due bounds w.base e u → Within bounds (record w { base = u })
   does_within (Write e) u g =
       let n = w.base.duty.holder in
       subst (λ (z : Resolved E). Within bounds (record w { base = z })) (sym g.1)
       (based (written w.base e) (put_len bounds w.base.nodes n (record (own w.base) { journal = journal_written w.base e }) (written_len e g.0.room) h.firsts) h.epoch h.ships h.acks)
-  does_within (Ship zero) u g = absurd g
-  does_within (Ship (suc place)) u g =
+  does_within (Ship k) u g =
       subst (λ (z : Resolved E). Within bounds (record w { base = z })) (sym g.1)
-      (based (shipped w.base place) h.firsts h.epoch (λ x i. elim (In-append w.base.messages (Ships (shipment w.base place)) (Ships x) i) [
+      (based (shipped w.base k) h.firsts h.epoch (λ x i. elim (In-append w.base.messages (Ships (shipment w.base k)) (Ships x) i) [
         | inl old ↦ h.ships x old
-        | inr e ↦ subst (IsShipment bounds) (ship_is (shipment w.base place) x e) (has_room place g.0.within)
+        | inr e ↦ subst (IsShipment bounds) (ship_is (shipment w.base k) x e) (has_room k g.0.from g.0.within)
       ])
-      (λ a i. elim (In-append w.base.messages (Ships (shipment w.base place)) (Acks a) i) [
+      (λ a i. elim (In-append w.base.messages (Ships (shipment w.base k)) (Acks a) i) [
         | inl old ↦ h.acks a old
-        | inr e ↦ absurd (ship_is_none (shipment w.base place) a e)
+        | inr e ↦ absurd (ship_is_none (shipment w.base k) a e)
       ]))
   does_within (Deliver i) u g =
       let m = on_item (item_at w.base.messages i) _ g in
@@ -215,18 +214,15 @@ module _ {E : Type 0} (due : List E → E → Type 0) (bounds : Bounds) (w : Wor
       subst (λ (z : Resolved E). Within bounds (record w { base = z })) (sym g.2)
       (based (record w.base { messages = without w.base.messages i }) h.firsts h.epoch (λ x k. h.ships x (In-without w.base.messages i k.0 (Ships x) k.1)) (λ a k. h.acks a (In-without w.base.messages i k.0 (Acks a) k.1)))
   does_within Book u g = subst (λ (z : Resolved E). Within bounds (record w { base = z })) (sym g.1) (based (booked_next w.base) h.firsts h.epoch h.ships h.acks)
-  does_within (Take n) u g = subst (λ (z : Resolved E). Within bounds (record w { base = z })) (sym g.1) (under_within n Alone (node_at w.base.nodes n).journal g.0.epochs_left)
-  does_within Go_alone u g = subst (λ (z : Resolved E). Within bounds (record w { base = z })) (sym g.1) (under_within w.base.duty.holder Alone w.base.booked g.0.epochs_left)
-  does_within Pair_up u g = subst (λ (z : Resolved E). Within bounds (record w { base = z })) (sym g.1) (under_within w.base.duty.holder Both w.base.booked g.0.epochs_left)
+  does_within (Take n) u g = subst (λ (z : Resolved E). Within bounds (record w { base = z })) (sym g.1) (duty_changed_within n Alone (node_at w.base.nodes n).journal g.0.epochs_left)
+  does_within Go_alone u g = subst (λ (z : Resolved E). Within bounds (record w { base = z })) (sym g.1) (duty_changed_within w.base.duty.holder Alone w.base.booked g.0.epochs_left)
+  does_within Pair_up u g = subst (λ (z : Resolved E). Within bounds (record w { base = z })) (sym g.1) (duty_changed_within w.base.duty.holder Both w.base.booked g.0.epochs_left)
   does_within (Stop n) u g = subst (λ (z : Resolved E). Within bounds (record w { base = z })) (sym g.1) (based (stopped w.base n) (put_same n false (node_at w.base.nodes n).known) h.epoch h.ships h.acks)
   does_within (Start n) u g = absurd g
   does_within Start_duty u g = absurd g
   does_within (Ask n r since) u g = absurd g
 
-  does_all : {Q : Type 0} (e : Event E Q) (v : World E) → (w.register_up ≡ true) × Does due bounds w.base e v.base × (v ≡ record w { base = v.base }) → Within bounds v
-  does_all e v g = as_it_is v (record w { base = v.base }) g.2 (does_within e v.base g.1)
-
-  picked_len : (n : NodeName) (b : Bool) (o : Option (List (Frame E))) → second_at w.second n ≡ o → IsJournal bounds (picked_node o b (node_at w.base.nodes n)).journal
+  picked_len : (n : NodeName) (b : Bool) (o : Option (List (Frame E))) → failed_write_at w.failed_writes n ≡ o → IsJournal bounds (picked_node o b (node_at w.base.nodes n)).journal
   picked_len n b None e = h.firsts n
   picked_len n true (Some j) e = h.seconds n j e
   picked_len n false (Some j) e = h.firsts n
@@ -234,8 +230,8 @@ module _ {E : Type 0} (due : List E → E → Type 0) (bounds : Bounds) (w : Wor
   started_within : (n : NodeName) (b : Bool) → Within bounds (started w n b)
   started_within n b =
       record {
-        firsts = put_len bounds w.base.nodes n (record (picked_node (second_at w.second n) b (node_at w.base.nodes n)) { up = true; known = w.base.duty.epoch }) (picked_len n b (second_at w.second n) refl) h.firsts;
-        seconds = put_second_len bounds w.second n None (λ j e. absurd (none_some j e)) h.seconds;
+        firsts = put_len bounds w.base.nodes n (record (picked_node (failed_write_at w.failed_writes n) b (node_at w.base.nodes n)) { up = true; known = w.base.duty.epoch }) (picked_len n b (failed_write_at w.failed_writes n) refl) h.firsts;
+        seconds = put_failed_write_len bounds w.failed_writes n None (λ j e. absurd (none_some j e)) h.seconds;
         epoch = h.epoch;
         failed = h.failed;
         ships = h.ships;
@@ -261,60 +257,28 @@ module _ {E : Type 0} (due : List E → E → Type 0) (bounds : Bounds) (w : Wor
       by_duty (Some d) e false = recovered_within w.base.duty w.base refl h.epoch
       by_duty (Some d) e true = recovered_within d (with_duty w.base d) refl (h.failed d e)
 
-  completes_within : {Q : Type 0} (e : Event E Q) (v : World E) → Completes due bounds w e v → Within bounds v
-  completes_within (Write e) v g = does_all {Q = E} (Write e) v g
-  completes_within (Ship k) v g = does_all {Q = E} (Ship k) v g
-  completes_within (Deliver i) v g = does_all {Q = E} (Deliver i) v g
-  completes_within (Drop i) v g = does_all {Q = E} (Drop i) v g
-  completes_within Book v g = does_all {Q = E} Book v g
-  completes_within (Take n) v g = does_all {Q = E} (Take n) v g
-  completes_within Go_alone v g = does_all {Q = E} Go_alone v g
-  completes_within Pair_up v g = does_all {Q = E} Pair_up v g
-  completes_within (Stop n) v g = as_it_is v _ g.1 (based (stopped w.base n) (put_same n false (node_at w.base.nodes n).known) h.epoch h.ships h.acks)
-  completes_within (Start n) v g = as_it_is v _ g.3 (started_within n g.0)
-  completes_within Start_duty v g = as_it_is v _ g.2 (register_started_within g.0)
-  completes_within (Ask n r since) v g = absurd g.1
+  completes_within : {Q : Type 0} (e : Event E Q) (v : World E) → WorldStep due bounds w e v → Within bounds v
+  completes_within e v g = elim (world_step due bounds w e v g) [
+    | inl p ↦ as_it_is v (record w { base = v.base }) p.same (does_within e v.base p.step)
+    | inr (inl s) ↦ as_it_is v _ s.1 (based (stopped w.base s.0) (put_same s.0 false (node_at w.base.nodes s.0).known) h.epoch h.ships h.acks)
+    | inr (inr (inl s)) ↦ as_it_is v _ s.3 (started_within s.0 s.1)
+    | inr (inr (inr s)) ↦ as_it_is v _ s.1 (register_started_within s.0)
+  ]
 
-  answers_within : {Q R : Type 0} (form : List E → Q → R) (e : Event E Q) (reply : R) (v : World E) → Answers form w e reply v → Within bounds v
-  answers_within form (Ask n r since) reply v g = as_it_is v w g.1 h
-  answers_within form (Write e) reply v g = absurd g
-  answers_within form (Ship k) reply v g = absurd g
-  answers_within form (Deliver i) reply v g = absurd g
-  answers_within form (Drop i) reply v g = absurd g
-  answers_within form Book reply v g = absurd g
-  answers_within form (Take n) reply v g = absurd g
-  answers_within form Go_alone reply v g = absurd g
-  answers_within form Pair_up reply v g = absurd g
-  answers_within form (Stop n) reply v g = absurd g
-  answers_within form (Start n) reply v g = absurd g
-  answers_within form Start_duty reply v g = absurd g
+  learns_within : {Q : Type 0} (e : Event E Q) (v : World E) → HearsEpoch w e v → Within bounds v
+  learns_within e v g =
+      let s = hears w e v g in
+      let r = other s.shipment.sender in
+      as_it_is v _ s.same (based (epoch_heard w.base s.shipment) (put_same r (node_at w.base.nodes r).up (max (known w.base r) s.shipment.epoch)) h.epoch h.ships h.acks)
 
-  learns_within : {Q : Type 0} (e : Event E Q) (v : World E) → LearnsOnly w e v → Within bounds v
-  learns_within (Deliver i) v g = let m = on_item (item_at w.base.messages i) _ g.1 in by_message m.0 m.2
-    where
-      by_message : (m : Message E) → OnShipment m (λ x. IsBehind w.base x × (v ≡ record w { base = learned_of w.base x })) → Within bounds v
-      by_message (Acks a) g = absurd g
-      by_message (Ships x) g = as_it_is v _ g.1 (based (learned_of w.base x) (put_same (other x.sender) (node_at w.base.nodes (other x.sender)).up (max (known w.base (other x.sender)) x.epoch)) h.epoch h.ships h.acks)
-  learns_within (Write e) v g = absurd g
-  learns_within (Ship k) v g = absurd g
-  learns_within (Drop i) v g = absurd g
-  learns_within Book v g = absurd g
-  learns_within (Take n) v g = absurd g
-  learns_within Go_alone v g = absurd g
-  learns_within Pair_up v g = absurd g
-  learns_within (Stop n) v g = absurd g
-  learns_within (Start n) v g = absurd g
-  learns_within Start_duty v g = absurd g
-  learns_within (Ask n r since) v g = absurd g
-
-  falls_within : (n : NodeName) (v : World E) → v ≡ fallen w n → Within bounds v
-  falls_within n v e = as_it_is v _ e (based (down w.base n) (put_same n false (node_at w.base.nodes n).known) h.epoch h.ships h.acks)
+  falls_within : (n : NodeName) (v : World E) → v ≡ read_failed w n → Within bounds v
+  falls_within n v e = as_it_is v _ e (based (node_down w.base n) (put_same n false (node_at w.base.nodes n).known) h.epoch h.ships h.acks)
 
   write_failed_within : (n : NodeName) (j : List (Frame E)) → IsJournal bounds j → Within bounds (write_failed w n j)
   write_failed_within n j low =
       record {
         firsts = put_same n false (node_at w.base.nodes n).known;
-        seconds = put_second_len bounds w.second n (Some j) (λ k e. subst (IsJournal bounds) (some_list j k e) low) h.seconds;
+        seconds = put_failed_write_len bounds w.failed_writes n (Some j) (λ k e. subst (IsJournal bounds) (some_list j k e) low) h.seconds;
         epoch = h.epoch;
         failed = h.failed;
         ships = h.ships;
@@ -375,7 +339,7 @@ module _ {E : Type 0} (bounds : Bounds) where
       first A = a
       first B = b
 
-      second : (n : NodeName) (j : List (Frame E)) → second_at {E = E} (record { a = None; b = None }) n ≡ Some j → ⊥
+      second : (n : NodeName) (j : List (Frame E)) → failed_write_at {E = E} (record { a = None; b = None }) n ≡ Some j → ⊥
       second A j is = none_some j is
       second B j is = none_some j is
 
@@ -395,7 +359,7 @@ module _ {E Q R : Type 0} (due : List E → E → Type 0) (form : List E → Q �
 
   pub step_within : (w : World E) → Within bounds w → (e : Event E Q) (o : Outcome R) (v : World E) → Step due form bounds w e o v → Within bounds v
   step_within w h e Done v g = completes_within due bounds w h e v g
-  step_within w h e (Answered reply) v g = answers_within due bounds w h form e reply v g
+  step_within w h e (Answered reply) v g = subst (Within bounds) (sym (answer_same w form e reply v g)) h
   step_within w h e Refused v g = elim g [ inl same ↦ subst (Within bounds) (sym same) h | inr learned ↦ learns_within due bounds w h e v learned ]
   step_within w h e Faulted v g = fails_within due bounds w h e v g
   step_within w h e Halted v g = halts_within w h e v g

@@ -6,14 +6,13 @@ use Rattle.ali_base.specs.declared.duty.Mode.TheVariants.{Both, Alone}
 use Rattle.ali_base.specs.declared.duty.Duty.{Duty}
 use Rattle.pair_world.specs.Frames.{Frame, entries, Begins, Shares, Rising, Legal}
 use Rattle.pair_world.specs.World.{Resolved, term_from, holder_journal, other_journal, with_duty, recovered, World, Choice, with_failed_duty, unrecovered, resolved}
-use Rattle.pair_world.specs.Changes.{down}
 use Rattle.pair_world.proofs.Lists.{Shares-less, Begins-Shares}
-use Rattle.pair_world.proofs.Deliveries.{nth_more}
-use Rattle.pair_world.proofs.Moves.{Legal-Begins}
-use Rattle.pair_world.proofs.Parts.{BookedParts, InStep, AreDuties, IsParts, IsKept}
+use Rattle.pair_world.proofs.Items.{nth_more}
+use Rattle.pair_world.proofs.Lists.{Legal-Begins}
+use Rattle.pair_world.proofs.Parts.{BookedParts, InStep, IsParts, IsKept}
 use Rattle.pair_world.proofs.Doubts.{no_duty}
-use Rattle.pair_world.proofs.Schedules.{resolved_sound}
-use Rattle.pair_world.specs.SoundWorld.{IsMirrored, HasOldSuffix, FloorsRise, AreCounted, Invariant, IsSound}
+use Rattle.pair_world.proofs.Reopening.{resolved_sound}
+use Rattle.pair_world.specs.SoundWorld.{IsMirrored, HasUncommittedSuffix, Part, Booked, Mirrored, Following, Agreeing, In_time, Current, Acknowledged, Known, Floored, Holds, Invariant, IsSound}
 
 -- each entry is due: those of the history, and the one past it
 whole_legal : {E : Type 0} (due : List E → E → Type 0) (h xs : List (Frame E)) → Begins xs h → length xs ≤ suc (length h) → Legal due h → ((f : Frame E) → slice_get xs (length h) ≡ Some f → due (entries h) f.entry) → Legal due xs
@@ -53,22 +52,7 @@ booked_told : {E : Type 0} (due : List E → E → Type 0) (h xs : List (Frame E
 booked_told due h xs b = (Legal-Begins due xs h b.begins b.legal, λ f is. subst (λ z. due (entries z) f.entry) b.begins.front (b.legal (length h) f is))
 
 module _ {E : Type 0} (due : List E → E → Type 0) (w : Resolved E) where
-  since : ℕ
-  since = term_from w.duty w.past
-
-  duties_from : (d : Duty) (ds : List Duty) → FloorsRise d ds → AreCounted d ds → AreDuties d ds
-  duties_from d [] f c = c
-  duties_from d (e ∷ es) f c = (c.0, f.0, duties_from e es f.1 c.1)
-
-  floors_of : (d : Duty) (ds : List Duty) → AreDuties d ds → FloorsRise d ds
-  floors_of d [] h = tt
-  floors_of d (e ∷ es) h = (h.1, floors_of e es h.2)
-
-  counted_of : (d : Duty) (ds : List Duty) → AreDuties d ds → AreCounted d ds
-  counted_of d [] h = h
-  counted_of d (e ∷ es) h = (h.0, counted_of e es h.2)
-
-  in_step_from : (m : Mode) → w.duty.mode ≡ m → (w.duty.mode ≡ Both → IsMirrored w) → (w.duty.mode ≡ Alone → Begins (holder_journal w) (other_journal w) ⊎ HasOldSuffix w) → InStep m w.duty.epoch (term_from w.duty w.past) w.booked (holder_journal w) (other_journal w)
+  in_step_from : (m : Mode) → w.duty.mode ≡ m → (w.duty.mode ≡ Both → IsMirrored w) → (w.duty.mode ≡ Alone → Begins (holder_journal w) (other_journal w) ⊎ HasUncommittedSuffix w) → InStep m w.duty.epoch (term_from w.duty w.past) w.booked (holder_journal w) (other_journal w)
   in_step_from Both is both alone = let s = both is in record { holds = s.holds; begins = s.prefix; fresh = s.fresh }
   in_step_from Alone is both alone = elim (alone is) [
     | inl b ↦ inl b
@@ -79,7 +63,7 @@ module _ {E : Type 0} (due : List E → E → Type 0) (w : Resolved E) where
   mirrored_of Both is s = record { holds = s.holds; prefix = s.begins; fresh = s.fresh }
   mirrored_of Alone is s = absurd (cc)
 
-  follows_of : Rising w.duty.epoch (holder_journal w) → (m : Mode) → m ≡ Alone → InStep m w.duty.epoch (term_from w.duty w.past) w.booked (holder_journal w) (other_journal w) → Begins (holder_journal w) (other_journal w) ⊎ HasOldSuffix w
+  follows_of : Rising w.duty.epoch (holder_journal w) → (m : Mode) → m ≡ Alone → InStep m w.duty.epoch (term_from w.duty w.past) w.booked (holder_journal w) (other_journal w) → Begins (holder_journal w) (other_journal w) ⊎ HasUncommittedSuffix w
   follows_of rising Both is s = absurd (cc)
   follows_of rising Alone is (inl b) = inl b
   follows_of rising Alone is (inr t) =
@@ -93,61 +77,64 @@ module _ {E : Type 0} (due : List E → E → Type 0) (w : Resolved E) where
 
   pub parts_from : Invariant due w → IsParts due w
   parts_from i =
+      let b = i.holds Booked in
+      let t = i.holds In_time in
+      let a = i.holds Acknowledged in
+      let k = i.holds Known in
+      let f = i.holds Floored in
       record {
-        booked = record { legal = whole_legal due w.booked (holder_journal w) i.booked.begins i.booked.one_more i.booked.legal i.booked.pending_due; begins = i.booked.begins; one_more = i.booked.one_more };
-        step = in_step_from w.duty.mode refl i.mirrored i.follows;
-        agree = i.agree;
-        time = record { mine = i.in_time.holders; others = i.in_time.others; ships = i.in_time.shipments; frames = λ x f in_list is. i.in_time.frames x f in_list is; acks = i.in_time.acks };
-        names = i.in_time.names;
-        ships = λ x in_list later. (let c = i.current x in_list later in record { sender = c.sender; term = c.term.from; frame = c.tells; before = c.before });
-        acks = record { acks = i.acknowledged.acks; acked = i.acknowledged.acked; ended = i.acknowledged.ended };
-        known = record { holder = i.known_by.holder; none_later = i.known_by.none_later };
-        duties = duties_from w.duty w.past i.floors.never_fall i.counted;
-        floor = i.floors.below;
+        booked = record { legal = whole_legal due w.booked (holder_journal w) b.begins b.one_more b.legal b.pending_due; begins = b.begins; one_more = b.one_more };
+        step = in_step_from w.duty.mode refl (i.holds Mirrored) (i.holds Following);
+        agree = i.holds Agreeing;
+        time = record { mine = t.holders; others = t.others; ships = t.shipments; frames = λ x f in_list is. t.frames x f in_list is; acks = t.acks };
+        names = t.names;
+        ships = λ x in_list later. (let c = i.holds Current x in_list later in record { sender = c.sender; term = c.term.from; frame = c.tells; before = c.before });
+        acks = record { acks = a.acks; acked = a.acked; ended = a.ended };
+        known = record { holder = k.holder; none_later = k.none_later };
+        counted = i.counted;
+        floors = f.never_fall;
+        floor = f.below;
       }
 
   pub parts_of : IsParts due w → Invariant due w
-  parts_of p =
-      record {
-        booked = record { legal = (booked_told due w.booked (holder_journal w) p.booked).0; begins = p.booked.begins; one_more = p.booked.one_more; pending_due = (booked_told due w.booked (holder_journal w) p.booked).1 };
-        mirrored = λ both. mirrored_of w.duty.mode both p.step;
-        follows = λ alone. follows_of p.time.mine w.duty.mode alone p.step;
-        agree = p.agree;
-        in_time = record { holders = p.time.mine; others = p.time.others; names = p.names; shipments = p.time.ships; frames = p.time.frames; acks = p.time.acks };
-        current = λ x in_list later. (let c = p.ships x in_list later in record { sender = c.sender; term = record { from = c.term; to = p.time.ships x in_list }; tells = c.frame; before = c.before });
-        acknowledged = record { acks = p.acks.acks; acked = p.acks.acked; ended = p.acks.ended };
-        known_by = record { holder = p.known.holder; none_later = p.known.none_later };
-        floors = record { never_fall = floors_of w.duty w.past p.duties; below = p.floor };
-        counted = counted_of w.duty w.past p.duties;
-      }
+  parts_of p = record { holds = λ part. by_part part; counted = p.counted }
+    where
+      by_part : (part : Part) → Holds due w part
+      by_part Booked = let b = booked_told due w.booked (holder_journal w) p.booked in record { legal = b.0; begins = p.booked.begins; one_more = p.booked.one_more; pending_due = b.1 }
+      by_part Mirrored = λ both. mirrored_of w.duty.mode both p.step
+      by_part Following = λ alone. follows_of p.time.mine w.duty.mode alone p.step
+      by_part Agreeing = p.agree
+      by_part In_time = record { holders = p.time.mine; others = p.time.others; names = p.names; shipments = p.time.ships; frames = p.time.frames; acks = p.time.acks }
+      by_part Current = λ x in_list later. (let c = p.ships x in_list later in record { sender = c.sender; term = record { from = c.term; to = p.time.ships x in_list }; tells = c.frame; before = c.before })
+      by_part Acknowledged = record { acks = p.acks.acks; acked = p.acks.acked; ended = p.acks.ended }
+      by_part Known = record { holder = p.known.holder; none_later = p.known.none_later }
+      by_part Floored = record { never_fall = p.floors; below = p.floor }
 
 module _ {E : Type 0} (due : List E → E → Type 0) (w : World E) where
   register_is : (s : IsSound due w) (c : Choice) (d : Duty) → w.failed_duty ≡ Some d → (r : Bool) → w.register_up ≡ r → Invariant due (recovered (with_duty (unrecovered c w) d))
   register_is s c d e true up = absurd (no_duty d (sym (s.one_duty up) ∙ e))
-  register_is s c d e false down =
+  register_is s c d e false is_down =
       let c' : Choice = record { a = c.a; b = c.b; duty = true } in
       let told : Invariant due (cond w.register_up (unrecovered c w) (recovered (with_failed_duty w.failed_duty true (unrecovered c w)))) = s.parts c' in
-      let told' : Invariant due (recovered (with_failed_duty w.failed_duty true (unrecovered c w))) = subst (λ r. Invariant due (cond r (unrecovered c w) (recovered (with_failed_duty w.failed_duty true (unrecovered c w))))) down told in
+      let told' : Invariant due (recovered (with_failed_duty w.failed_duty true (unrecovered c w))) = subst (λ r. Invariant due (cond r (unrecovered c w) (recovered (with_failed_duty w.failed_duty true (unrecovered c w))))) is_down told in
       subst (λ o. Invariant due (recovered (with_failed_duty o true (unrecovered c w)))) e told'
 
   pub kept_from : IsSound due w → IsKept due w
   kept_from s =
       record {
-        sure = s.one_journal;
-        calm = s.one_duty;
-        plain = λ c. parts_from due (unrecovered c w) (s.unrecovered_parts c);
-        changed = λ c d e. parts_from due (recovered (with_duty (unrecovered c w) d)) (register_is s c d e w.register_up refl);
-        longer = s.loses_nothing;
-        taker = s.sure_taker;
+        one_journal = s.one_journal;
+        one_duty = s.one_duty;
+        unrecovered_parts = λ c. parts_from due (unrecovered c w) (s.unrecovered_parts c);
+        recovered_parts = λ c d e. parts_from due (recovered (with_duty (unrecovered c w) d)) (register_is s c d e w.register_up refl);
+        sure_taker = s.sure_taker;
       }
 
   pub sound_of : IsKept due w → IsSound due w
   sound_of k =
       record {
         parts = λ c. parts_of due (resolved c w) (resolved_sound due w k c);
-        one_journal = k.sure;
-        one_duty = k.calm;
-        unrecovered_parts = λ c. parts_of due (unrecovered c w) (k.plain c);
-        loses_nothing = k.longer;
-        sure_taker = k.taker;
+        one_journal = k.one_journal;
+        one_duty = k.one_duty;
+        unrecovered_parts = λ c. parts_of due (unrecovered c w) (k.unrecovered_parts c);
+        sure_taker = k.sure_taker;
       }

@@ -1,15 +1,15 @@
 -- The worlds that lack one part have the others.
-use Rattle.std.proofs.Common.{◌≡◌, ℕ, zero, suc, ◌<◌, ◌≤◌, ◌⊎◌, inl, inr, false, List, [], ◌∷◌, refl, ap, sym, ◌∙◌, subst, arith, Option, Some}
+use Rattle.std.proofs.Common.{◌≡◌, ℕ, zero, suc, ◌<◌, ◌≤◌, ◌⊎◌, inl, inr, false, List, [], ◌∷◌, length, refl, ap, sym, ◌∙◌, subst, arith, Option, Some}
 use Rattle.std.specs.Prelude.{slice_get}
 use Rattle.ali_base.specs.declared.names.NodeName.{NodeName}
 use Rattle.ali_base.specs.declared.names.NodeName.TheVariants.{A, B}
 use Rattle.ali_base.specs.declared.duty.Mode.{Mode}
 use Rattle.ali_base.specs.declared.duty.Mode.TheVariants.{Both, Alone}
-use Rattle.pair_world.specs.Frames.{Frame, epoch_at, Begins, Shares, Agree, Rising, Legal, In}
+use Rattle.pair_world.specs.Frames.{Frame, entries, epoch_at, Begins, Shares, Agree, Rising, Legal, In}
 use Rattle.pair_world.specs.World.{other, Shipment, Ack, Message, Ships, Acks, Resolved, term_from, holder_journal, other_journal, known}
-use Rattle.pair_world.specs.SoundWorld.{IsBooked, IsMirrored, HasOldSuffix, Named, NamesOne, IsInTime, IsCurrent, HasEnd, IsAcknowledged}
+use Rattle.pair_world.specs.SoundWorld.{IsBooked, IsMirrored, HasUncommittedSuffix, Named, NamesOne, IsInTime, IsCurrent, HasEnd, IsAcknowledged, IsKnown, Part, Booked, Mirrored, Following, Agreeing, In_time, Current, Acknowledged, Known, Floored, Holds}
 use Rattle.pair_world.specs.WorkedSchedules.{framed}
-use Rattle.pair_world.specs.NeededParts.{Booked, Mirrored, Following, In_time, Current, Acknowledged, Known, Floored, HasOthers, not_due, not_mirrored, young_suffix, early_ack, not_current, not_stored, high_floor}
+use Rattle.pair_world.specs.NeededParts.{HasOthers, one_written, not_due, not_mirrored, young_suffix, early_ack, not_current, not_stored, high_floor}
 use Rattle.pair_world.proofs.Lists.{Shares-none, Shares-less, Begins-refl, Begins-Agree, Agree-sym}
 
 not_here : {X : Type 0} (x : X) (k : ℕ) → slice_get {X = X} [] k ≡ Some x → ⊥
@@ -139,73 +139,134 @@ module _ {E : Type 0} (due : List E → E → Type 0) where
         frames = λ x f i is. absurd (no_message (Ships x) (subst (λ ms. In ms (Ships x)) none i));
       }
 
+  -- in time, where there are no messages and one frame in all: the holder's, or the other's
+  one_written_in_time : (w : Resolved E) (f : Frame E) → w.messages ≡ [] → f.epoch ≤ w.duty.epoch → holder_journal w ≡ f ∷ [] → other_journal w ≡ [] → IsInTime w
+  one_written_in_time w f none top mine others =
+      in_time_without w none (subst (Rising w.duty.epoch) (sym mine) (rising_one w.duty.epoch f top)) (subst (Rising w.duty.epoch) (sym others) (rising_none w.duty.epoch))
+      (no_shipment w.messages (λ x i. no_message (Ships x) (subst (λ ms. In ms (Ships x)) none i)) (holder_journal w) (other_journal w) (f ∷ [])
+      (λ k g is. ap (λ z. slice_get z k) (sym mine) ∙ is) (λ k g is. absurd (not_here g k (ap (λ z. slice_get z k) (sym others) ∙ is))))
+
+  one_stored_in_time : (w : Resolved E) (f : Frame E) → w.messages ≡ [] → f.epoch ≤ w.duty.epoch → holder_journal w ≡ [] → other_journal w ≡ f ∷ [] → IsInTime w
+  one_stored_in_time w f none top mine others =
+      in_time_without w none (subst (Rising w.duty.epoch) (sym mine) (rising_none w.duty.epoch)) (subst (Rising w.duty.epoch) (sym others) (rising_one w.duty.epoch f top))
+      (no_shipment w.messages (λ x i. no_message (Ships x) (subst (λ ms. In ms (Ships x)) none i)) (holder_journal w) (other_journal w) (f ∷ [])
+      (λ k g is. absurd (not_here g k (ap (λ z. slice_get z k) (sym mine) ∙ is))) (λ k g is. ap (λ z. slice_get z k) (sym others) ∙ is))
+
+  -- a holder with one frame, and nothing booked
+  one_pending : (w : Resolved E) (f : Frame E) → holder_journal w ≡ f ∷ [] → w.booked ≡ [] → due [] f.entry → IsBooked due w
+  one_pending w f mine none d =
+      record {
+        legal = λ k g is. absurd (not_here g k (ap (λ z. slice_get z k) (sym none) ∙ is));
+        begins = subst (Begins (holder_journal w)) (sym none) (begins_none (holder_journal w));
+        one_more = (let m = ap length mine in let n = ap length none in omega arith);
+        pending_due = λ g is. subst (λ h. due (entries h) g.entry) (sym none)
+            (first_due due f d g (ap (λ z. slice_get z 0) (sym mine) ∙ ap (λ h. slice_get (holder_journal w) (length h)) (sym none) ∙ is));
+      }
+
+  none_mirrors : (w : Resolved E) (f : Frame E) → holder_journal w ≡ f ∷ [] → other_journal w ≡ [] → w.booked ≡ [] → f.epoch ≡ w.duty.epoch → IsMirrored w
+  none_mirrors w f mine others none now =
+      record {
+        holds = subst (Begins (other_journal w)) (sym none) (begins_none (other_journal w));
+        prefix = subst (Begins (holder_journal w)) (sym others) (begins_none (holder_journal w));
+        fresh = λ k far within. subst (λ z. epoch_at z k ≡ w.duty.epoch) (sym mine) (fresh_one f k (omega arith) (let m = ap length mine in omega arith) ∙ now);
+      }
+
+  -- a new office in which a wrote the entry and b stored nothing: its parts, but those that are asked
+  one_written_others : (missing : Part) (e : E) (booked : List (Frame E)) (acked : ℕ)
+      → ((missing ≡ Booked → ⊥) → IsBooked due (one_written e booked [] acked).base)
+      → ((missing ≡ Mirrored → ⊥) → IsMirrored (one_written e booked [] acked).base)
+      → ((missing ≡ Acknowledged → ⊥) → IsAcknowledged (one_written e booked [] acked).base)
+      → HasOthers due missing (one_written e booked [] acked).base
+  one_written_others missing e booked acked is_booked is_mirrored is_acked = record { holds = λ part n. by_part part n; counted = refl }
+    where
+      by_part : (part : Part) → (missing ≡ part → ⊥) → Holds due (one_written e booked [] acked).base part
+      by_part Booked n = is_booked n
+      by_part Mirrored n = λ both. is_mirrored n
+      by_part Following n = λ alone. no_mode alone
+      by_part Agreeing n = agree_none (framed e 1 ∷ [])
+      by_part In_time n = one_written_in_time (one_written e booked [] acked).base (framed e 1) refl (omega arith) refl refl
+      by_part Current n = no_message_current (one_written e booked [] acked).base refl
+      by_part Acknowledged n = is_acked n
+      by_part Known n = record { holder = refl; none_later = known_top 1 1 1 (one_written e booked [] acked).base refl refl (omega arith) (omega arith) }
+      by_part Floored n = record { never_fall = tt; below = omega arith }
+
   pub not_due_others : (e : E) → HasOthers due Booked (not_due e).base
   not_due_others e =
-      let f = framed e 1 in
-      record {
-        booked = λ n. absurd (n refl);
-        mirrored = λ n both. record { holds = begins_none []; prefix = begins_none (framed e 1 ∷ []); fresh = fresh_one (framed e 1) };
-        follows = λ n alone. no_mode alone;
-        agree = λ n. agree_none (framed e 1 ∷ []);
-        in_time = λ n. in_time_without (not_due e).base refl (rising_one 1 (framed e 1) (omega arith)) (rising_none 1) (no_shipment [] (λ x i. no_message (Ships x) i) (framed e 1 ∷ []) [] (framed e 1 ∷ []) (λ k g is. is) (λ k g is. absurd (not_here g k is)));
-        current = λ n. no_message_current (not_due e).base refl;
-        acknowledged = λ n. nothing_acked (not_due e).base refl refl refl;
-        known_by = λ n. record { holder = refl; none_later = known_top 1 1 1 (not_due e).base refl refl (omega arith) (omega arith) };
-        floors = λ n. record { never_fall = tt; below = omega arith };
-        counted = refl;
-      }
+      one_written_others Booked e [] 0 (λ n. absurd (n refl)) (λ n. none_mirrors (not_due e).base (framed e 1) refl refl refl refl)
+      (λ n. nothing_acked (not_due e).base refl refl refl)
 
   pub not_mirrored_others : (e : E) → due [] e → HasOthers due Mirrored (not_mirrored e).base
   not_mirrored_others e d =
+      one_written_others Mirrored e (framed e 1 ∷ []) 0
+      (λ n. record { legal = one_legal due (framed e 1) d; begins = Begins-refl (framed e 1 ∷ []); one_more = omega arith; pending_due = λ g is. absurd (past_one (framed e 1) g 0 is) })
+      (λ n. absurd (n refl)) (λ n. nothing_acked (not_mirrored e).base refl refl refl)
+
+  pub not_stored_others : (e : E) → due [] e → HasOthers due Acknowledged (not_stored e).base
+  not_stored_others e d =
+      one_written_others Acknowledged e [] 1 (λ n. one_pending (not_stored e).base (framed e 1) refl refl d)
+      (λ n. none_mirrors (not_stored e).base (framed e 1) refl refl refl refl) (λ n. absurd (n refl))
+
+  pub high_floor_others : (e : E) → due [] e → HasOthers due Floored (high_floor e).base
+  high_floor_others e d = record { holds = λ part n. by_part part n; counted = (refl, (refl, refl)) }
+    where
+      by_part : (part : Part) → (Floored ≡ part → ⊥) → Holds due (high_floor e).base part
+      by_part Booked n = one_pending (high_floor e).base (framed e 3) refl refl d
+      by_part Mirrored n = λ both. none_mirrors (high_floor e).base (framed e 3) refl refl refl refl
+      by_part Following n = λ alone. no_mode alone
+      by_part Agreeing n = agree_none (framed e 3 ∷ [])
+      by_part In_time n = one_written_in_time (high_floor e).base (framed e 3) refl (omega arith) refl refl
+      by_part Current n = no_message_current (high_floor e).base refl
+      by_part Acknowledged n = nothing_acked (high_floor e).base refl refl refl
+      by_part Known n = record { holder = refl; none_later = known_top 3 1 3 (high_floor e).base refl refl (omega arith) (omega arith) }
+      by_part Floored n = absurd (n refl)
+
+  nothing_booked : (w : Resolved E) → holder_journal w ≡ [] → w.booked ≡ [] → IsBooked due w
+  nothing_booked w mine none =
       record {
-        booked = λ n. record { legal = one_legal due (framed e 1) d; begins = Begins-refl (framed e 1 ∷ []); one_more = omega arith; pending_due = λ g is. absurd (past_one (framed e 1) g 0 is) };
-        mirrored = λ n. absurd (n refl);
-        follows = λ n alone. no_mode alone;
-        agree = λ n. agree_none (framed e 1 ∷ []);
-        in_time = λ n. in_time_without (not_mirrored e).base refl (rising_one 1 (framed e 1) (omega arith)) (rising_none 1) (no_shipment [] (λ x i. no_message (Ships x) i) (framed e 1 ∷ []) [] (framed e 1 ∷ []) (λ k g is. is) (λ k g is. absurd (not_here g k is)));
-        current = λ n. no_message_current (not_mirrored e).base refl;
-        acknowledged = λ n. nothing_acked (not_mirrored e).base refl refl refl;
-        known_by = λ n. record { holder = refl; none_later = known_top 1 1 1 (not_mirrored e).base refl refl (omega arith) (omega arith) };
-        floors = λ n. record { never_fall = tt; below = omega arith };
-        counted = refl;
+        legal = λ k g is. absurd (not_here g k (ap (λ z. slice_get z k) (sym none) ∙ is));
+        begins = subst (Begins (holder_journal w)) (sym none) (begins_none (holder_journal w));
+        one_more = (let m = ap length mine in omega arith);
+        pending_due = λ g is. absurd (not_here g (length w.booked) (ap (λ z. slice_get z (length w.booked)) (sym mine) ∙ is));
       }
 
   pub young_suffix_others : (e : E) → HasOthers due Following (young_suffix e).base
-  young_suffix_others e =
-      record {
-        booked = λ n. record { legal = λ k g is. absurd (not_here g k is); begins = begins_none []; one_more = omega arith; pending_due = λ g is. absurd (not_here g 0 is) };
-        mirrored = λ n both. no_mode' both;
-        follows = λ n. absurd (n refl);
-        agree = λ n. none_agree (framed e 2 ∷ []);
-        in_time = λ n. in_time_without (young_suffix e).base refl (rising_none 2) (rising_one 2 (framed e 2) (omega arith)) (no_shipment [] (λ x i. no_message (Ships x) i) [] (framed e 2 ∷ []) (framed e 2 ∷ []) (λ k g is. absurd (not_here g k is)) (λ k g is. is));
-        current = λ n. no_message_current (young_suffix e).base refl;
-        acknowledged = λ n. nothing_acked (young_suffix e).base refl refl refl;
-        known_by = λ n. record { holder = refl; none_later = known_top 2 2 2 (young_suffix e).base refl refl (omega arith) (omega arith) };
-        floors = λ n. record { never_fall = (omega arith, tt); below = omega arith };
-        counted = (refl, refl);
-      }
+  young_suffix_others e = record { holds = λ part n. by_part part n; counted = (refl, refl) }
+    where
+      by_part : (part : Part) → (Following ≡ part → ⊥) → Holds due (young_suffix e).base part
+      by_part Booked n = nothing_booked (young_suffix e).base refl refl
+      by_part Mirrored n = λ both. no_mode' both
+      by_part Following n = absurd (n refl)
+      by_part Agreeing n = none_agree (framed e 2 ∷ [])
+      by_part In_time n = one_stored_in_time (young_suffix e).base (framed e 2) refl (omega arith) refl refl
+      by_part Current n = no_message_current (young_suffix e).base refl
+      by_part Acknowledged n = nothing_acked (young_suffix e).base refl refl refl
+      by_part Known n = record { holder = refl; none_later = known_top 2 2 2 (young_suffix e).base refl refl (omega arith) (omega arith) }
+      by_part Floored n = record { never_fall = (omega arith, tt); below = omega arith }
+
+  -- an acknowledgement of a later epoch
+  abbrev early : Ack
+  early = record { to = A; epoch = 3; preceding = 0; end = false }
 
   pub early_ack_others : HasOthers due In_time (early_ack {E = E}).base
-  early_ack_others =
-      record {
-        booked = λ n. record { legal = λ k g is. absurd (not_here g k is); begins = begins_none []; one_more = omega arith; pending_due = λ g is. absurd (not_here g 0 is) };
-        mirrored = λ n both. no_mode' both;
-        follows = λ n alone. inl (begins_none []);
-        agree = λ n. agree_none [];
-        in_time = λ n. absurd (n refl);
-        current = λ n x i later. absurd (not_ack x (record { to = A; epoch = 3; place = 0; end = false }) (sym (only (Acks (record { to = A; epoch = 3; place = 0; end = false })) (Ships x) i)));
-        acknowledged = λ n. record {
-          acks = λ a i now. absurd (let is = ap (λ (z : Ack). z.epoch) (same_ack (record { to = A; epoch = 3; place = 0; end = false }) a (only (Acks (record { to = A; epoch = 3; place = 0; end = false })) (Acks a) i)) in omega arith);
-          acked = Shares-none [] [];
-          ended = λ place is. subst (λ k. HasEnd {E = E} k [] []) (let h : 0 ≡ place = omega arith in h) end_none;
-        };
-        known_by = λ n. record { holder = refl; none_later = known_top 2 1 2 (early_ack {E = E}).base refl refl (omega arith) (omega arith) };
-        floors = λ n. record { never_fall = (omega arith, tt); below = omega arith };
-        counted = (refl, refl);
+  early_ack_others = record { holds = λ part n. by_part part n; counted = (refl, refl) }
+    where
+      by_part : (part : Part) → (In_time ≡ part → ⊥) → Holds due (early_ack {E = E}).base part
+      by_part Booked n = nothing_booked (early_ack {E = E}).base refl refl
+      by_part Mirrored n = λ both. no_mode' both
+      by_part Following n = λ alone. inl (begins_none [])
+      by_part Agreeing n = agree_none []
+      by_part In_time n = absurd (n refl)
+      by_part Current n = λ x i later. absurd (not_ack x early (sym (only (Acks early) (Ships x) i)))
+      by_part Acknowledged n = record {
+        acks = λ a i now. absurd (let is = ap (λ (z : Ack). z.epoch) (same_ack early a (only (Acks early) (Acks a) i)) in omega arith);
+        acked = Shares-none [] [];
+        ended = λ k is. subst (λ k. HasEnd {E = E} k [] []) (let h : 0 ≡ k = omega arith in h) end_none;
       }
+      by_part Known n = record { holder = refl; none_later = known_top 2 1 2 (early_ack {E = E}).base refl refl (omega arith) (omega arith) }
+      by_part Floored n = record { never_fall = (omega arith, tt); below = omega arith }
 
   abbrev stray : E → Shipment E
-  stray h = record { sender = A; epoch = 1; place = 1; before = 1; frame = Some (framed h 1) }
+  stray h = record { sender = A; epoch = 1; preceding = 1; before = 1; frame = Some (framed h 1) }
 
   stray_names : (g h : E) → NamesOne (framed g 1 ∷ []) (framed g 1 ∷ []) (Ships (stray h) ∷ [])
   stray_names g h = names_in (framed g 1 ∷ framed h 1 ∷ []) (framed g 1 ∷ []) (framed g 1 ∷ []) (Ships (stray h) ∷ []) (λ k f named. by_name k f named)
@@ -214,9 +275,9 @@ module _ {E : Type 0} (due : List E → E → Type 0) where
       first zero f is = is
       first (suc k) f is = absurd (past_one (framed g 1) f k is)
 
-      by_message : (x : Shipment E) (k : ℕ) (f : Frame E) → stray h ≡ x → x.place ≡ k → x.frame ≡ Some f → slice_get (framed g 1 ∷ framed h 1 ∷ []) k ≡ Some f
+      by_message : (x : Shipment E) (k : ℕ) (f : Frame E) → stray h ≡ x → x.preceding ≡ k → x.frame ≡ Some f → slice_get (framed g 1 ∷ framed h 1 ∷ []) k ≡ Some f
       by_message x k f is place frame =
-          let at : 1 ≡ k = ap (λ (z : Shipment E). z.place) is ∙ place in
+          let at : 1 ≡ k = ap (λ (z : Shipment E). z.preceding) is ∙ place in
           subst (λ n. slice_get (framed g 1 ∷ framed h 1 ∷ []) n ≡ Some f) at (ap (λ (z : Shipment E). z.frame) is ∙ frame)
 
       by_name : (k : ℕ) (f : Frame E) → Named (framed g 1 ∷ []) (framed g 1 ∷ []) (Ships (stray h) ∷ []) k f → slice_get (framed g 1 ∷ framed h 1 ∷ []) k ≡ Some f
@@ -255,80 +316,40 @@ module _ {E : Type 0} (due : List E → E → Type 0) where
         ended = λ place is. absurd (omega arith);
       }
 
-  stray_booked : (k : ℕ) (g h : E) → due [] g → IsBooked due (not_current k g h).base
-  stray_booked k g h d = record { legal = one_legal due (framed g 1) d; begins = Begins-refl (framed g 1 ∷ []); one_more = omega arith; pending_due = λ f is. absurd (past_one (framed g 1) f 0 is) }
-
-  stray_mirrored : (k : ℕ) (g h : E) → IsMirrored (not_current k g h).base
-  stray_mirrored k g h = record { holds = Begins-refl (framed g 1 ∷ []); prefix = Begins-refl (framed g 1 ∷ []); fresh = λ n far within. absurd (omega arith) }
+  -- the world with the stray shipment, in which b knows this epoch: its parts, but those that are asked
+  stray_others : (missing : Part) (k : ℕ) (g h : E) → due [] g
+      → ((missing ≡ Current → ⊥) → (x : Shipment E) → In (Ships (stray h) ∷ []) (Ships x) → known (not_current k g h).base (other x.sender) ≤ x.epoch → IsCurrent (not_current k g h).base x)
+      → ((missing ≡ Known → ⊥) → IsKnown (not_current k g h).base)
+      → HasOthers due missing (not_current k g h).base
+  stray_others missing k g h d is_current is_known = record { holds = λ part n. by_part part n; counted = refl }
+    where
+      by_part : (part : Part) → (missing ≡ part → ⊥) → Holds due (not_current k g h).base part
+      by_part Booked n = record { legal = one_legal due (framed g 1) d; begins = Begins-refl (framed g 1 ∷ []); one_more = omega arith; pending_due = λ f is. absurd (past_one (framed g 1) f 0 is) }
+      by_part Mirrored n = λ both. record { holds = Begins-refl (framed g 1 ∷ []); prefix = Begins-refl (framed g 1 ∷ []); fresh = λ n far within. absurd (omega arith) }
+      by_part Following n = λ alone. no_mode alone
+      by_part Agreeing n = agree_self (framed g 1 ∷ [])
+      by_part In_time n = stray_in_time k g h
+      by_part Current n = is_current n
+      by_part Acknowledged n = stray_acked k g h
+      by_part Known n = is_known n
+      by_part Floored n = record { never_fall = tt; below = omega arith }
 
   pub not_current_others : (g h : E) → due [] g → HasOthers due Current (not_current 1 g h).base
   not_current_others g h d =
-      record {
-        booked = λ n. stray_booked 1 g h d;
-        mirrored = λ n both. stray_mirrored 1 g h;
-        follows = λ n alone. no_mode alone;
-        agree = λ n. agree_self (framed g 1 ∷ []);
-        in_time = λ n. stray_in_time 1 g h;
-        current = λ n. absurd (n refl);
-        acknowledged = λ n. stray_acked 1 g h;
-        known_by = λ n. record { holder = refl; none_later = known_top 1 1 1 (not_current 1 g h).base refl refl (omega arith) (omega arith) };
-        floors = λ n. record { never_fall = tt; below = omega arith };
-        counted = refl;
-      }
+      stray_others Current 1 g h d (λ n. absurd (n refl))
+      (λ n. record { holder = refl; none_later = known_top 1 1 1 (not_current 1 g h).base refl refl (omega arith) (omega arith) })
 
   pub known_later_others : (g h : E) → due [] g → HasOthers due Known (not_current 2 g h).base
-  known_later_others g h d =
-      record {
-        booked = λ n. stray_booked 2 g h d;
-        mirrored = λ n both. stray_mirrored 2 g h;
-        follows = λ n alone. no_mode alone;
-        agree = λ n. agree_self (framed g 1 ∷ []);
-        in_time = λ n. stray_in_time 2 g h;
-        current = λ n x i later. absurd (stale x (is_stray h x i) later);
-        acknowledged = λ n. stray_acked 2 g h;
-        known_by = λ n. absurd (n refl);
-        floors = λ n. record { never_fall = tt; below = omega arith };
-        counted = refl;
-      }
+  known_later_others g h d = stray_others Known 2 g h d (λ n x i later. absurd (stale x (is_stray h x i) later)) (λ n. absurd (n refl))
     where
       stale : (x : Shipment E) → stray h ≡ x → known (not_current 2 g h).base (other x.sender) ≤ x.epoch → ⊥
       stale x is later = subst (λ (z : Shipment E). known (not_current 2 g h).base (other z.sender) ≤ z.epoch → ⊥) is (λ low. absurd (omega arith)) later
 
-  pub not_stored_others : (e : E) → due [] e → HasOthers due Acknowledged (not_stored e).base
-  not_stored_others e d =
-      record {
-        booked = λ n. record { legal = λ k g is. absurd (not_here g k is); begins = begins_none (framed e 1 ∷ []); one_more = omega arith; pending_due = first_due due (framed e 1) d };
-        mirrored = λ n both. record { holds = begins_none []; prefix = begins_none (framed e 1 ∷ []); fresh = fresh_one (framed e 1) };
-        follows = λ n alone. no_mode alone;
-        agree = λ n. agree_none (framed e 1 ∷ []);
-        in_time = λ n. in_time_without (not_stored e).base refl (rising_one 1 (framed e 1) (omega arith)) (rising_none 1) (no_shipment [] (λ x i. no_message (Ships x) i) (framed e 1 ∷ []) [] (framed e 1 ∷ []) (λ k g is. is) (λ k g is. absurd (not_here g k is)));
-        current = λ n. no_message_current (not_stored e).base refl;
-        acknowledged = λ n. absurd (n refl);
-        known_by = λ n. record { holder = refl; none_later = known_top 1 1 1 (not_stored e).base refl refl (omega arith) (omega arith) };
-        floors = λ n. record { never_fall = tt; below = omega arith };
-        counted = refl;
-      }
-
-  pub high_floor_others : (e : E) → due [] e → HasOthers due Floored (high_floor e).base
-  high_floor_others e d =
-      record {
-        booked = λ n. record { legal = λ k g is. absurd (not_here g k is); begins = begins_none (framed e 3 ∷ []); one_more = omega arith; pending_due = first_due due (framed e 3) d };
-        mirrored = λ n both. record { holds = begins_none []; prefix = begins_none (framed e 3 ∷ []); fresh = fresh_one (framed e 3) };
-        follows = λ n alone. no_mode alone;
-        agree = λ n. agree_none (framed e 3 ∷ []);
-        in_time = λ n. in_time_without (high_floor e).base refl (rising_one 3 (framed e 3) (omega arith)) (rising_none 3) (no_shipment [] (λ x i. no_message (Ships x) i) (framed e 3 ∷ []) [] (framed e 3 ∷ []) (λ k g is. is) (λ k g is. absurd (not_here g k is)));
-        current = λ n. no_message_current (high_floor e).base refl;
-        acknowledged = λ n. nothing_acked (high_floor e).base refl refl refl;
-        known_by = λ n. record { holder = refl; none_later = known_top 3 1 3 (high_floor e).base refl refl (omega arith) (omega arith) };
-        floors = λ n. absurd (n refl);
-        counted = (refl, (refl, refl));
-      }
-
 -- agreement follows from the two parts before it
-pub agreement_follows : {E : Type 0} (w : Resolved E) → (w.duty.mode ≡ Both → IsMirrored w) → (w.duty.mode ≡ Alone → Begins (holder_journal w) (other_journal w) ⊎ HasOldSuffix w) → Agree (holder_journal w) (other_journal w)
+pub agreement_follows : {E : Type 0} (w : Resolved E) → (w.duty.mode ≡ Both → IsMirrored w) → (w.duty.mode ≡ Alone → Begins (holder_journal w) (other_journal w) ⊎ HasUncommittedSuffix w) → Agree (holder_journal w) (other_journal w)
 agreement_follows {E} w both alone = by_mode w.duty.mode refl
   where
-    by_suffix : HasOldSuffix w → Agree (holder_journal w) (other_journal w)
+    by_suffix : HasUncommittedSuffix w → Agree (holder_journal w) (other_journal w)
     by_suffix t k left right same = elim (split k) [
       | inl inside ↦ (Shares-less t.shared inside).front
       | inr past ↦

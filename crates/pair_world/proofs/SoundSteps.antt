@@ -5,12 +5,13 @@ use Rattle.ali_base.specs.declared.names.NodeName.TheVariants.{A, B}
 use Rattle.ali_base.specs.declared.duty.Duty.{Duty}
 use Rattle.pair_world.specs.Frames.{Frame, Begins}
 use Rattle.pair_world.specs.World.{Resolved, World, Choice, node_at, holder_journal, other_journal, MayHold, MayRead, unrecovered, resolved, opened, formatted, without_doubt, with_nodes, picked_nodes}
-use Rattle.pair_world.specs.Step.{Event, Outcome, Done, Take, Pair_up, Bounds, Turn, Does, Fails, Step, Runs}
+use Rattle.pair_world.specs.Step.{Event, Outcome, Done, Take, Pair_up, Bounds, Turn, ResolvedStep, Fails, Step, Runs}
 use Rattle.pair_world.specs.SoundWorld.{Invariant, IsSound}
 use Rattle.pair_world.specs.FaultOrigin.{ComesFrom}
 use Rattle.pair_world.proofs.Worlds.{caught_up, formatted_sound, halt_sound}
 use Rattle.pair_world.proofs.Doubts.{same_step}
-use Rattle.pair_world.proofs.Schedules.{without_doubt_kept, reopened_keeps, fails, step_keeps, runs_keep}
+use Rattle.pair_world.proofs.Reopening.{without_doubt_kept, reopened_keeps}
+use Rattle.pair_world.proofs.Schedules.{fails, step_keeps, runs_keep}
 use Rattle.pair_world.proofs.NineParts.{parts_from, parts_of, kept_from, sound_of}
 use Rattle.pair_world.proofs.Duties.{takeover, pair}
 use Rattle.pair_world.proofs.Origins.{fault_origin}
@@ -35,7 +36,7 @@ module _ {E : Type 0} (due : List E → E → Type 0) where
       (parts_of due (opened duty past journal_a journal_b) r.0, r.1)
 
 module _ {E : Type 0} (due : List E → E → Type 0) (bounds : Bounds) (w : World E) (s : IsSound due w) where
-  pub step_alike : {Q : Type 0} (event : Event E Q) (done : Resolved E) → Does due bounds w.base event done → (choice : Choice) → Does due bounds (unrecovered choice w) event (with_nodes done (picked_nodes choice w.second done.nodes))
+  pub step_alike : {Q : Type 0} (event : Event E Q) (done : Resolved E) → ResolvedStep due bounds w.base event done → (choice : Choice) → ResolvedStep due bounds (unrecovered choice w) event (with_nodes done (picked_nodes choice w.failed_writes done.nodes))
   step_alike event done does choice = same_step due w (kept_from due w s) bounds event done does choice
 
   pub fault_comes_from : {Q : Type 0} (event : Event E Q) (v : World E) → Fails due bounds w event v → (choice : Choice) → ComesFrom due bounds event w v choice

@@ -1,11 +1,13 @@
 -- The epochs of a term.
-use Rattle.std.proofs.Common.{◌≡◌, ℕ, zero, suc, ◌≤◌, ◌⊎◌, inl, inr, Bool, true, false, cond, List, [], ◌∷◌, refl, ap, arith, Some}
+use Rattle.std.proofs.Common.{◌≡◌, ℕ, zero, suc, ◌≤◌, ◌⊎◌, inl, inr, Bool, true, false, cond, List, [], ◌∷◌, refl, ap, sym, ◌∙◌, subst, arith, Some}
 use Rattle.std.specs.Prelude.{slice_get}
+use Rattle.ali_base.specs.declared.names.NodeName.{NodeName}
+use Rattle.ali_base.specs.declared.names.NodeName.TheVariants.{A, B}
 use Rattle.ali_base.specs.declared.duty.Duty.{Duty}
 use Rattle.pair_world.specs.Frames.{In}
-use Rattle.pair_world.specs.World.{is_node, term, term_from}
+use Rattle.pair_world.specs.World.{other, is_node, term, last_epoch_of, term_from}
 use Rattle.pair_world.specs.SoundWorld.{AreCounted}
-use Rattle.pair_world.proofs.Deliveries.{by_test}
+use Rattle.pair_world.proofs.Items.{by_test}
 
 in_front : {A : Type 0} (x : A) (xs : List A) (y : A) → In (x ∷ xs) y → (x ≡ y) ⊎ In xs y
 in_front x xs y h = by_place h.0 h.1
@@ -17,18 +19,53 @@ in_front x xs y h = by_place h.0 h.1
 not_in : {A : Type 0} (y : A) (k : ℕ) → slice_get {X = A} [] k ≡ Some y → ⊥
 not_in y k e = absurd (cc)
 
-term_low : (d : Duty) (ds : List Duty) → AreCounted d ds → term_from d ds ≤ d.epoch
+-- a term is never empty
+term_front : (k : ℕ) (d : Duty) (ds : List Duty) → last_epoch_of k (term d ds) ≡ last_epoch_of d.epoch (term d ds)
+term_front k d [] = refl
+term_front k d (b ∷ bs) = by_holder (is_node d.holder b.holder)
+  where
+    by_holder : (t : Bool) → last_epoch_of k (cond t (d ∷ term b bs) (d ∷ [])) ≡ last_epoch_of d.epoch (cond t (d ∷ term b bs) (d ∷ []))
+    by_holder true = refl
+    by_holder false = refl
+
+-- a term goes on with the one before, where the holder is the same
+pub term_step : (d b : Duty) (bs : List Duty) → term_from d (b ∷ bs) ≡ cond (is_node d.holder b.holder) (term_from b bs) d.epoch
+term_step d b bs = by_holder (is_node d.holder b.holder)
+  where
+    by_holder : (t : Bool) → last_epoch_of d.epoch (cond t (d ∷ term b bs) (d ∷ [])) ≡ cond t (term_from b bs) d.epoch
+    by_holder true = term_front d.epoch b bs
+    by_holder false = refl
+
+pub holder_term : (d b : Duty) (bs : List Duty) → d.holder ≡ b.holder → term_from d (b ∷ bs) ≡ term_from b bs
+holder_term d b bs same = term_step d b bs ∙ ap (λ t. cond t (term_from b bs) d.epoch) (is_same d.holder b.holder same)
+  where
+    itself : (n : NodeName) → is_node n n ≡ true
+    itself A = refl
+    itself B = refl
+
+    is_same : (m n : NodeName) → m ≡ n → is_node m n ≡ true
+    is_same m n e = subst (λ z. is_node m z ≡ true) e (itself m)
+
+pub taker_term : (d b : Duty) (bs : List Duty) → d.holder ≡ other b.holder → term_from d (b ∷ bs) ≡ d.epoch
+taker_term d b bs taker = term_step d b bs ∙ ap (λ n. cond (is_node n b.holder) (term_from b bs) d.epoch) taker ∙ ap (λ t. cond t (term_from b bs) d.epoch) (is_apart b.holder)
+  where
+    is_apart : (n : NodeName) → is_node (other n) n ≡ false
+    is_apart A = refl
+    is_apart B = refl
+
+pub term_low : (d : Duty) (ds : List Duty) → AreCounted d ds → term_from d ds ≤ d.epoch
 term_low d [] c = omega arith
 term_low d (b ∷ bs) c =
     let rec = term_low b bs c.1 in
-    by_test (λ t. t ≤ d.epoch) (is_node d.holder b.holder) (term_from b bs) d.epoch (λ same. omega (arith, c.0, rec)) (λ apart. omega arith)
+    subst (λ t. t ≤ d.epoch) (sym (term_step d b bs)) (by_test (λ t. t ≤ d.epoch) (is_node d.holder b.holder) (term_from b bs) d.epoch (λ same. omega (arith, c.0, rec)) (λ apart. omega arith))
 
 pub term_within : (d : Duty) (ds : List Duty) (e : ℕ) → AreCounted d ds → (one : Duty) → In (term d ds) one → one.epoch ≡ e → (term_from d ds ≤ e) × (e ≤ d.epoch)
 term_within d [] e c one i is = elim (in_front d [] one i) [
   | inl same ↦ (let k = ap (λ (z : Duty). z.epoch) same in (omega arith, omega arith))
   | inr none ↦ absurd (not_in one none.0 none.1)
 ]
-term_within d (b ∷ bs) e c one i is = by_holder (is_node d.holder b.holder) i (λ inside. term_within b bs e c.1 one inside is)
+term_within d (b ∷ bs) e c one i is =
+    subst (λ t. (t ≤ e) × (e ≤ d.epoch)) (sym (term_step d b bs)) (by_holder (is_node d.holder b.holder) i (λ inside. term_within b bs e c.1 one inside is))
   where
     low : term_from b bs ≤ b.epoch
     low = term_low b bs c.1
@@ -45,7 +82,8 @@ term_within d (b ∷ bs) e c one i is = by_holder (is_node d.holder b.holder) i 
 
 pub term_has : (d : Duty) (ds : List Duty) (e : ℕ) → AreCounted d ds → term_from d ds ≤ e → e ≤ d.epoch → (one : Duty) × In (term d ds) one × (one.epoch ≡ e)
 term_has d [] e c low high = (d, (0, refl), omega arith)
-term_has d (b ∷ bs) e c low high = by_holder (is_node d.holder b.holder) low (λ low before. term_has b bs e c.1 low before)
+term_has d (b ∷ bs) e c low high =
+    by_holder (is_node d.holder b.holder) (subst (λ t. t ≤ e) (term_step d b bs) low) (λ low before. term_has b bs e c.1 low before)
   where
     split : (d.epoch ≡ e) ⊎ (e ≤ b.epoch)
     split = grind (arith, c.0)
@@ -56,3 +94,10 @@ term_has d (b ∷ bs) e c low high = by_holder (is_node d.holder b.holder) low (
       | inl now ↦ (d, (0, refl), now)
       | inr before ↦ (let r = rec low before in (r.0, (suc r.1.0, r.1.1), r.2))
     ]
+
+-- of two names, one is the other or its other
+pub either : (n h : NodeName) → (n ≡ h) ⊎ (n ≡ other h)
+either A A = inl refl
+either A B = inr refl
+either B A = inr refl
+either B B = inl refl

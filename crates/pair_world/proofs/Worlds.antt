@@ -1,5 +1,5 @@
 -- Each event keeps a sound world sound.
-use Rattle.std.proofs.Common.{◌≡◌, ℕ, zero, suc, ◌<◌, ◌≤◌, ◌⊎◌, inl, inr, Bool, true, false, cond, nat_lt, List, [], ◌∷◌, length, take, refl, ap, sym, ◌∙◌, subst, arith, Option, Some, None}
+use Rattle.std.proofs.Common.{◌≡◌, ℕ, zero, suc, ◌<◌, ◌≤◌, inl, inr, Bool, true, false, cond, nat_lt, List, [], ◌∷◌, length, take, refl, ap, sym, ◌∙◌, subst, arith, Some}
 use Rattle.std.specs.Prelude.{slice_get, min, max}
 use Rattle.std.proofs.lemmas.List.{take_all}
 use Rattle.std.proofs.lemmas.Bool.Decides.{nat_tests}
@@ -8,19 +8,19 @@ use Rattle.ali_base.specs.declared.names.NodeName.TheVariants.{A, B}
 use Rattle.ali_base.specs.declared.duty.Mode.{Mode}
 use Rattle.ali_base.specs.declared.duty.Mode.TheVariants.{Both, Alone}
 use Rattle.ali_base.specs.declared.duty.Duty.{Duty}
-use Rattle.pair_world.specs.Frames.{Frame, entries, item_at, epoch_at, Begins, Shares, In, OnItem, without}
+use Rattle.pair_world.specs.Frames.{Frame, entries, item_at, epoch_at, Begins, Shares, In, without}
 use Rattle.pair_world.specs.World.{other, is_node, Shipment, Message, Ships, Acks, NodeState, Nodes, node_at, put_node, Resolved, term_from, own, holder_journal, other_journal, known, with_node, recovered, booked_at_start, opened, formatted}
 use Rattle.pair_world.specs.Deliveries.{answer, journal_after, ack_end, with_ack}
-use Rattle.pair_world.specs.Changes.{journal_written, written, shipment, shipped, delivered, booked_next, under, stopped, learned_of}
-use Rattle.pair_world.specs.Step.{Event, Write, Ship, Deliver, Drop, Book, Take, Go_alone, Pair_up, Stop, Start, Start_duty, Ask, Bounds, nothing_pending, CanDeliver, Does}
+use Rattle.pair_world.specs.Changes.{journal_written, written, shipment, shipped, delivered, booked_next, duty_changed, stopped, epoch_heard}
+use Rattle.pair_world.specs.Step.{Event, Write, Ship, Deliver, Drop, Book, Take, Go_alone, Pair_up, Stop, Start, Start_duty, Ask, Bounds, nothing_pending, CanDeliver, ResolvedStep}
 use Rattle.pair_world.specs.SoundWorld.{Named}
 use Rattle.pair_world.proofs.Parts.{BookedParts, StepsBoth, InStep, Parts, IsParts}
 use Rattle.pair_world.proofs.Lists.{Shares-less, Shares-none, Begins-length, Shares-Begins, Begins-refl, Begins-trans}
-use Rattle.pair_world.proofs.Moves.{In-without, keeps_known, keeps_lost, keeps_heard, keeps_shipped, keeps_written, keeps_history, keeps_same_holder, keeps_taken, keeps_answer, answer_ack, shipment_fits, keeps_told, keeps_acked}
-
-pub on_item : {A : Type 0} (o : Option A) (P : A → Type 0) → OnItem o P → (x : A) × (o ≡ Some x) × P x
-on_item None P h = absurd h
-on_item (Some x) P h = (x, refl, h)
+use Rattle.pair_world.proofs.Items.{on_item, in_item, In-without}
+use Rattle.pair_world.proofs.Terms.{either}
+use Rattle.pair_world.proofs.Moves.{keeps_known, keeps_lost, keeps_heard, keeps_shipped, keeps_written, keeps_history}
+use Rattle.pair_world.proofs.DutyMoves.{keeps_same_holder, keeps_taken}
+use Rattle.pair_world.proofs.DeliveryMoves.{keeps_answer, answer_ack, shipment_fits, keeps_told, keeps_acked}
 
 -- a node's state is put in its place
 module _ {E : Type 0} where
@@ -74,8 +74,8 @@ module _ {E : Type 0} (due : List E → E → Type 0) (w : Resolved E) (sound : 
       let q = put_known w.duty.holder s (omega arith) (sound.known.none_later w.duty.holder) in
       put_own w.nodes w.duty.holder s (keeps_written q (record { entry = e; epoch = w.duty.epoch }) refl none (own_due e none next))
 
-  pub ship_sound : (place : ℕ) → place ≤ length (holder_journal w) → IsParts due (shipped w place)
-  ship_sound place fits = keeps_shipped sound (shipment w place) refl refl fits refl refl
+  pub ship_sound : (k : ℕ) → 0 < k → k ≤ suc (length (holder_journal w)) → IsParts due (shipped w k)
+  ship_sound k low fits = keeps_shipped sound (shipment w k) refl refl (omega arith) refl refl
 
   pub drop_sound : (i : ℕ) → IsParts due (record w { messages = without w.messages i })
   drop_sound i = keeps_lost sound (without w.messages i) (λ m k. In-without w.messages i k.0 m k.1)
@@ -114,7 +114,7 @@ module _ {E : Type 0} (due : List E → E → Type 0) (w : Resolved E) (sound : 
       put_same w.nodes n w.duty.holder false (node_at w.nodes n).known (put_known n s (omega arith) (sound.known.none_later n))
 
   -- a node learns of the epoch of a shipment
-  pub learn_sound : (x : Shipment E) → In w.messages (Ships x) → IsParts due (learned_of w x)
+  pub learn_sound : (x : Shipment E) → In w.messages (Ships x) → IsParts due (epoch_heard w x)
   learn_sound x i =
       let n = other x.sender in
       let s : NodeState E = record (node_at w.nodes n) { known = max (known w n) x.epoch } in
@@ -153,14 +153,14 @@ module _ {E : Type 0} (due : List E → E → Type 0) (w : Resolved E) (sound : 
   steps_both both = subst (λ m. InStep m w.duty.epoch (term_from w.duty w.past) w.booked (holder_journal w) (other_journal w)) both sound.step
 
   -- a new duty of the same holder
-  pub same_holder : (mode : Mode) (h' : List (Frame E)) → BookedParts due h' (holder_journal w) → length w.booked ≤ length h' → InStep mode (suc w.duty.epoch) (term_from w.duty w.past) h' (holder_journal w) (other_journal w) → IsParts due (under w w.duty.holder mode h')
+  pub same_holder : (mode : Mode) (h' : List (Frame E)) → BookedParts due h' (holder_journal w) → length w.booked ≤ length h' → InStep mode (suc w.duty.epoch) (term_from w.duty w.past) h' (holder_journal w) (other_journal w) → IsParts due (duty_changed w w.duty.holder mode h')
   same_holder mode h' booked longer step =
       let n = w.duty.holder in
       let s : NodeState E = record (node_at w.nodes n) { known = suc w.duty.epoch } in
       let f = sound.floor in
       let k = own_top n in
       put_same w.nodes n n (node_at w.nodes n).up (suc w.duty.epoch)
-      (keeps_same_holder sound (under w n mode h').duty h' (known (under w n mode h')) refl refl (omega arith) (omega arith) booked step
+      (keeps_same_holder sound (duty_changed w n mode h').duty h' (known (duty_changed w n mode h')) refl refl (omega arith) (omega arith) booked step
       (λ m. known_grows w.nodes n m s (omega arith))
       (λ m. known_top w.nodes n m s (suc w.duty.epoch) (omega arith) (λ m. let t = own_top m in omega arith))
       (known_put w.nodes n s))
@@ -169,7 +169,7 @@ module _ {E : Type 0} (due : List E → E → Type 0) (w : Resolved E) (sound : 
   other_other A = refl
   other_other B = refl
 
-  pub take_other : w.duty.mode ≡ Both → IsParts due (under w (other w.duty.holder) Alone (other_journal w))
+  pub take_other : w.duty.mode ≡ Both → IsParts due (duty_changed w (other w.duty.holder) Alone (other_journal w))
   take_other both =
       let n = other w.duty.holder in
       let s : NodeState E = record (node_at w.nodes n) { known = suc w.duty.epoch } in
@@ -178,32 +178,26 @@ module _ {E : Type 0} (due : List E → E → Type 0) (w : Resolved E) (sound : 
       let f = sound.floor in
       let k = own_top n in
       put_same w.nodes n n (node_at w.nodes n).up (suc w.duty.epoch)
-      (subst (λ z. Parts due (under w n Alone (other_journal w)).duty (w.duty ∷ w.past) (other_journal w) (other_journal w) (node_at w.nodes z).journal (known (under w n Alone (other_journal w))) w.messages 0 0) (sym (other_other w.duty.holder))
-      (keeps_taken sound (under w n Alone (other_journal w)).duty (known (under w n Alone (other_journal w))) both refl refl refl (omega arith) (omega arith)
+      (subst (λ z. Parts due (duty_changed w n Alone (other_journal w)).duty (w.duty ∷ w.past) (other_journal w) (other_journal w) (node_at w.nodes z).journal (known (duty_changed w n Alone (other_journal w))) w.messages 0 0) (sym (other_other w.duty.holder))
+      (keeps_taken sound (duty_changed w n Alone (other_journal w)).duty (known (duty_changed w n Alone (other_journal w))) both refl refl refl (omega arith) (omega arith)
       (λ m. known_grows w.nodes n m s (omega arith))
       (λ m. known_top w.nodes n m s (suc w.duty.epoch) (omega arith) (λ m. let t = own_top m in omega arith))
       (known_put w.nodes n s)))
 
-  pub either : (n h : NodeName) → (n ≡ h) ⊎ (n ≡ other h)
-  either A A = inl refl
-  either A B = inr refl
-  either B A = inr refl
-  either B B = inl refl
-
-  pub take_sound : (n : NodeName) → w.duty.mode ≡ Both → IsParts due (under w n Alone (node_at w.nodes n).journal)
+  pub take_sound : (n : NodeName) → w.duty.mode ≡ Both → IsParts due (duty_changed w n Alone (node_at w.nodes n).journal)
   take_sound n both = elim (either n w.duty.holder) [
-    | inl own ↦ subst (λ z. IsParts due (under w z Alone (node_at w.nodes z).journal)) (sym own)
+    | inl own ↦ subst (λ z. IsParts due (duty_changed w z Alone (node_at w.nodes z).journal)) (sym own)
         (same_holder Alone (holder_journal w) (record { legal = sound.booked.legal; begins = Begins-refl (holder_journal w); one_more = omega arith }) (Begins-length sound.booked.begins) (inl (steps_both both).begins))
-    | inr far ↦ subst (λ z. IsParts due (under w z Alone (node_at w.nodes z).journal)) (sym far) (take_other both)
+    | inr far ↦ subst (λ z. IsParts due (duty_changed w z Alone (node_at w.nodes z).journal)) (sym far) (take_other both)
   ]
 
-  pub alone_sound : w.duty.mode ≡ Both → IsParts due (under w w.duty.holder Alone w.booked)
+  pub alone_sound : w.duty.mode ≡ Both → IsParts due (duty_changed w w.duty.holder Alone w.booked)
   alone_sound both = same_holder Alone w.booked sound.booked (omega arith) (inl (steps_both both).begins)
 
-  pub pair_sound : nothing_pending w → length w.booked < w.ended → IsParts due (under w w.duty.holder Both w.booked)
+  pub pair_sound : nothing_pending w → length w.booked < w.ended → IsParts due (duty_changed w w.duty.holder Both w.booked)
   pair_sound none reached = by_end w.ended refl reached
     where
-      by_end : (n : ℕ) → w.ended ≡ n → length w.booked < n → IsParts due (under w w.duty.holder Both w.booked)
+      by_end : (n : ℕ) → w.ended ≡ n → length w.booked < n → IsParts due (duty_changed w w.duty.holder Both w.booked)
       by_end zero is r = absurd (omega arith)
       by_end (suc k) is r =
           let e = sound.acks.ended k is in
@@ -326,31 +320,25 @@ module _ {E : Type 0} (due : List E → E → Type 0) (w : Resolved E) (sound : 
 as_it_was : {E : Type 0} (w v u : Resolved E) → v ≡ u → u.booked ≡ w.booked → Begins v.booked w.booked
 as_it_was w v u e same = subst (λ z. Begins z w.booked) (sym (ap (λ (z : Resolved _). z.booked) e ∙ same)) (Begins-refl w.booked)
 
-pub in_item : {A : Type 0} (xs : List A) (i : ℕ) (x : A) → item_at xs i ≡ Some x → In xs x
-in_item xs zero x h = absurd (cc)
-in_item xs (suc i) x h = (i, h)
-
 module _ {E Q : Type 0} (due : List E → E → Type 0) (bounds : Bounds) (w : Resolved E) (sound : IsParts due w) where
   -- the booked history only grows
-  pub grows : (e : Event E Q) (v : Resolved E) → Does due bounds w e v → Begins v.booked w.booked
+  pub grows : (e : Event E Q) (v : Resolved E) → ResolvedStep due bounds w e v → Begins v.booked w.booked
   grows (Write e) v g = as_it_was w v (written w e) g.1 refl
-  grows (Ship zero) v g = absurd g
-  grows (Ship (suc place)) v g = as_it_was w v (shipped w place) g.1 refl
+  grows (Ship k) v g = as_it_was w v (shipped w k) g.1 refl
   grows (Deliver i) v g = let m = on_item (item_at w.messages i) _ g in as_it_was w v (delivered w m.0) m.2.1 (delivered_booked due w sound m.0)
   grows (Drop i) v g = as_it_was w v (record w { messages = without w.messages i }) g.2 refl
   grows Book v g = subst (λ (z : Resolved E). Begins z.booked w.booked) (sym g.1) (book_begins due w sound)
   grows (Take n) v g = subst (λ (z : Resolved E). Begins z.booked w.booked) (sym g.1) (both_begin due w sound g.0.both n)
-  grows Go_alone v g = as_it_was w v (under w w.duty.holder Alone w.booked) g.1 refl
-  grows Pair_up v g = as_it_was w v (under w w.duty.holder Both w.booked) g.1 refl
+  grows Go_alone v g = as_it_was w v (duty_changed w w.duty.holder Alone w.booked) g.1 refl
+  grows Pair_up v g = as_it_was w v (duty_changed w w.duty.holder Both w.booked) g.1 refl
   grows (Stop n) v g = as_it_was w v (stopped w n) g.1 refl
   grows (Start n) v g = absurd g
   grows Start_duty v g = absurd g
   grows (Ask n r since) v g = absurd g
 
-  pub after_step : (e : Event E Q) (v : Resolved E) → Does due bounds w e v → IsParts due v
+  pub after_step : (e : Event E Q) (v : Resolved E) → ResolvedStep due bounds w e v → IsParts due v
   after_step (Write e) v g = subst (IsParts due) (sym g.1) (write_sound due w sound e g.0.free g.0.next)
-  after_step (Ship zero) v g = absurd g
-  after_step (Ship (suc place)) v g = subst (IsParts due) (sym g.1) (ship_sound due w sound place g.0.within)
+  after_step (Ship k) v g = subst (IsParts due) (sym g.1) (ship_sound due w sound k g.0.from g.0.within)
   after_step (Deliver i) v g = let m = on_item (item_at w.messages i) _ g in subst (IsParts due) (sym m.2.1) (deliver_sound due w sound m.0 (in_item w.messages i m.0 m.1) m.2.0)
   after_step (Drop i) v g = subst (IsParts due) (sym g.2) (drop_sound due w sound i)
   after_step Book v g = subst (IsParts due) (sym g.1) (book_sound due w sound g.0.pending g.0.stored)
@@ -382,7 +370,8 @@ formatted_sound {E} due =
       ships = λ x i later. absurd (no_item (Ships x) i.0 i.1);
       acks = record { acks = λ a i now. absurd (no_item (Acks a) i.0 i.1); acked = Shares-none [] []; ended = λ k is. absurd (omega arith) };
       known = record { holder = refl; none_later = λ n. knows n };
-      duties = refl;
+      counted = refl;
+      floors = tt;
       floor = omega arith;
     }
   where

@@ -1,10 +1,10 @@
 -- What each event changes: the world after it, where it is done, and after a fault in it.
-use Rattle.std.specs.Prelude.{ℕ, suc, max, List, [], ◌∷◌, ◌++◌, length, take, slice_get, Some, None, Bool, true, false, if◌then◌else◌}
+use Rattle.std.specs.Prelude.{ℕ, suc, ◌-◌, max, List, [], ◌∷◌, ◌++◌, length, take, slice_get, Some, None, Bool, true, false, if◌then◌else◌}
 use Rattle.ali_base.specs.declared.names.NodeName.{NodeName}
 use Rattle.ali_base.specs.declared.duty.Mode.{Mode}
 use Rattle.ali_base.specs.declared.duty.Duty.{Duty}
 use Rattle.pair_world.specs.Frames.{Frame, epoch_at}
-use Rattle.pair_world.specs.World.{other, is_node, Shipment, Ack, Message, Ships, Acks, NodeState, node_at, put_node, Resolved, own, holder_journal, known, with_node, recovered, second_at, put_second, World, picked_node, with_failed_duty}
+use Rattle.pair_world.specs.World.{other, is_node, Shipment, Ack, Message, Ships, Acks, NodeState, node_at, put_node, Resolved, own, holder_journal, known, with_node, recovered, failed_write_at, put_failed_write, World, picked_node, with_failed_duty}
 use Rattle.pair_world.specs.Deliveries.{answer, journal_after, ack_end, with_ack}
 
 -- What the holder's journal is after a write.
@@ -15,24 +15,24 @@ journal_written w entry = holder_journal w ++ record { entry = entry; epoch = w.
 abbrev pub written : {E : Type 0} → Resolved E → E → Resolved E
 written w entry = with_node w w.duty.holder (record (own w) { journal = journal_written w entry })
 
--- The frame after so many, or the end, with the epoch of the frame before it.
+-- Frame k of the holder, or the end, with the epoch of the frame before it.
 abbrev pub shipment : {E : Type 0} → Resolved E → ℕ → Shipment E
-shipment w place =
+shipment w k =
     record {
       sender = w.duty.holder;
       epoch = w.duty.epoch;
-      place = place;
-      before = epoch_at (holder_journal w) place;
-      frame = slice_get (holder_journal w) place;
+      preceding = k - 1;
+      before = epoch_at (holder_journal w) (k - 1);
+      frame = slice_get (holder_journal w) (k - 1);
     }
 
--- The shipment is on its way.
+-- The shipment of frame k is on its way.
 abbrev pub shipped : {E : Type 0} → Resolved E → ℕ → Resolved E
-shipped w place = record w { messages = w.messages ++ Ships (shipment w place) ∷ [] }
+shipped w k = record w { messages = w.messages ++ Ships (shipment w k) ∷ [] }
 
--- The receiver answers by the table, and learns the epoch of the message.
-abbrev pub taken_in : {E : Type 0} → Resolved E → Shipment E → NodeState E → Resolved E
-taken_in w x state =
+-- The receiver answers by the table, and hears the epoch of the message.
+abbrev pub shipment_delivered : {E : Type 0} → Resolved E → Shipment E → NodeState E → Resolved E
+shipment_delivered w x state =
     record w {
       nodes =
           put_node w.nodes (other x.sender) (record state {
@@ -43,21 +43,21 @@ taken_in w x state =
     }
 
 -- The acknowledgement of a frame counts it, that of the end counts the frames before it and the end.
-abbrev pub heard : {E : Type 0} → Resolved E → Ack → Resolved E
-heard w ack =
+abbrev pub ack_delivered : {E : Type 0} → Resolved E → Ack → Resolved E
+ack_delivered w ack =
     record w {
-      acked = max w.acked (if ack.end then ack.place else suc ack.place);
-      ended = max w.ended (if ack.end then suc ack.place else 0);
+      acked = max w.acked (if ack.end then ack.preceding else suc ack.preceding);
+      ended = max w.ended (if ack.end then suc ack.preceding else 0);
     }
 
--- The message comes.
+-- The message is delivered.
 abbrev pub delivered : {E : Type 0} → Resolved E → Message E → Resolved E
-delivered w (Ships x) = taken_in w x (node_at w.nodes (other x.sender))
-delivered w (Acks ack) = heard w ack
+delivered w (Ships x) = shipment_delivered w x (node_at w.nodes (other x.sender))
+delivered w (Acks ack) = ack_delivered w ack
 
--- The receiver learns the epoch of the shipment, and nothing else changes.
-abbrev pub learned_of : {E : Type 0} → Resolved E → Shipment E → Resolved E
-learned_of w x =
+-- The receiver hears the epoch of the shipment, and nothing else changes.
+abbrev pub epoch_heard : {E : Type 0} → Resolved E → Shipment E → Resolved E
+epoch_heard w x =
     with_node w (other x.sender) (record (node_at w.nodes (other x.sender)) { known = max (known w (other x.sender)) x.epoch })
 
 -- The history grows by the frame of the holder past it.
@@ -68,9 +68,9 @@ booked_next w = record w { booked = take (suc (length w.booked)) (holder_journal
 abbrev pub new_duty : {E : Type 0} → Resolved E → NodeName → Mode → ℕ → Duty
 new_duty w holder mode floor = record { epoch = suc w.duty.epoch; holder = holder; mode = mode; floor = floor }
 
--- A new duty over this history. Its holder knows it, and the two acknowledged numbers begin anew.
-abbrev pub under : {E : Type 0} → Resolved E → NodeName → Mode → List (Frame E) → Resolved E
-under w holder mode history =
+-- The duty changes, over this history. Its holder knows it, and the two acknowledged numbers begin anew.
+abbrev pub duty_changed : {E : Type 0} → Resolved E → NodeName → Mode → List (Frame E) → Resolved E
+duty_changed w holder mode history =
     record {
       duty = new_duty w holder mode (length history);
       past = w.duty ∷ w.past;
@@ -82,8 +82,8 @@ under w holder mode history =
     }
 
 -- The node goes down, and nothing else changes.
-abbrev pub down : {E : Type 0} → Resolved E → NodeName → Resolved E
-down w n = with_node w n (record (node_at w.nodes n) { up = false })
+abbrev pub node_down : {E : Type 0} → Resolved E → NodeName → Resolved E
+node_down w n = with_node w n (record (node_at w.nodes n) { up = false })
 
 -- The node is stopped. The acknowledged numbers are the holder's, and go with it.
 abbrev pub stopped : {E : Type 0} → Resolved E → NodeName → Resolved E
@@ -94,36 +94,36 @@ stopped w n =
       ended = if is_node n w.duty.holder then 0 else w.ended;
     }
 
--- The node starts on this one of its journals, and knows the present epoch.
+-- The node starts, and knows the present epoch. Where its disk was in doubt, the failed write lasted or it did not.
 abbrev pub started : {E : Type 0} → World E → NodeName → Bool → World E
-started w n takes_second =
+started w n lasted =
     record w {
       base =
-          with_node w.base n (record (picked_node (second_at w.second n) takes_second (node_at w.base.nodes n)) {
+          with_node w.base n (record (picked_node (failed_write_at w.failed_writes n) lasted (node_at w.base.nodes n)) {
             up = true;
             known = w.base.duty.epoch;
           });
-      second = put_second w.second n None;
+      failed_writes = put_failed_write w.failed_writes n None;
     }
 
--- The register starts on this one of its lists.
+-- The register starts. Where it was in doubt, the failed change lasted or it did not.
 abbrev pub register_started : {E : Type 0} → World E → Bool → World E
-register_started w takes_second =
+register_started w lasted =
     record w {
-      base = recovered (with_failed_duty w.failed_duty takes_second w.base);
+      base = recovered (with_failed_duty w.failed_duty lasted w.base);
       register_up = true;
       failed_duty = None;
     }
 
--- The node falls in a read, and its disk is as it was.
-abbrev pub fallen : {E : Type 0} → World E → NodeName → World E
-fallen w n = record w { base = down w.base n }
+-- A read failed at the node: it is down, and its disk is as it was.
+abbrev pub read_failed : {E : Type 0} → World E → NodeName → World E
+read_failed w n = record w { base = node_down w.base n }
 
--- The node falls in a write that may have left this journal.
+-- A write failed at the node that may have left this journal: it is down.
 abbrev pub write_failed : {E : Type 0} → World E → NodeName → List (Frame E) → World E
-write_failed w n journal = record w { base = down w.base n; second = put_second w.second n (Some journal) }
+write_failed w n journal = record w { base = node_down w.base n; failed_writes = put_failed_write w.failed_writes n (Some journal) }
 
--- The register falls in a write that may have added this duty.
+-- A write failed at the register that may have added this duty: it is down.
 abbrev pub register_failed : {E : Type 0} → World E → Duty → World E
 register_failed w duty = record w { register_up = false; failed_duty = Some duty }
 

@@ -13,26 +13,26 @@ pub data Answer (E : Type 0) : Type 0 where
 
 -- There is a frame before the one that is told, and the journal has another one in its place.
 abbrev pub differs_before : {E : Type 0} → List (Frame E) → Shipment E → Bool
-differs_before journal x = nat_lt 0 x.place && not (epoch_at journal x.place == x.before)
+differs_before journal x = nat_lt 0 x.preceding && not (epoch_at journal x.preceding == x.before)
 
 -- The journal goes on past the sender's end, by a frame that is older than the message.
 abbrev pub old_next : {E : Type 0} → List (Frame E) → Shipment E → Bool
-old_next journal x = nat_lt x.place (length journal) && nat_lt (epoch_at journal (suc x.place)) x.epoch
+old_next journal x = nat_lt x.preceding (length journal) && nat_lt (epoch_at journal (suc x.preceding)) x.epoch
 
 -- The rows of the table below BEHIND, those for an entry and those for the end.
 abbrev pub answer_in : {E : Type 0} → List (Frame E) → Shipment E → Option (Frame E) → Answer E
 answer_in journal x (Some frame) =
-    if nat_lt x.place (length journal)
-    then (if epoch_at journal (suc x.place) == frame.epoch then Have else Cut x.place)
-    else (if differs_before journal x then Cut (x.place - 1) else Stored frame)
+    if nat_lt x.preceding (length journal)
+    then (if epoch_at journal (suc x.preceding) == frame.epoch then Have else Cut x.preceding)
+    else (if differs_before journal x then Cut (x.preceding - 1) else Stored frame)
 answer_in journal x None =
     if differs_before journal x
-    then Cut (x.place - 1)
-    else (if old_next journal x then Cut x.place else Have_end)
+    then Cut (x.preceding - 1)
+    else (if old_next journal x then Cut x.preceding else Have_end)
 
 -- The answer of a node with this journal.
 unfoldable pub answer : {E : Type 0} → List (Frame E) → Shipment E → Answer E
-answer journal x = if nat_lt (length journal) x.place then Behind else answer_in journal x x.frame
+answer journal x = if nat_lt (length journal) x.preceding then Behind else answer_in journal x x.frame
 
 -- At most one append or one cut.
 abbrev pub journal_after : {E : Type 0} → List (Frame E) → Answer E → List (Frame E)
@@ -54,4 +54,4 @@ ack_end (Cut left) = None
 abbrev pub with_ack : {E : Type 0} → Shipment E → Option Bool → List (Message E) → List (Message E)
 with_ack x None messages = messages
 with_ack x (Some end) messages =
-    messages ++ Acks (record { to = x.sender; epoch = x.epoch; place = x.place; end = end }) ∷ []
+    messages ++ Acks (record { to = x.sender; epoch = x.epoch; preceding = x.preceding; end = end }) ∷ []

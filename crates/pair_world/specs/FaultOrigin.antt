@@ -2,8 +2,8 @@
 use Rattle.std.specs.Prelude.{◌≡◌, List, ◌⊎◌}
 use Rattle.ali_base.specs.declared.names.NodeName.{NodeName}
 use Rattle.pair_world.specs.World.{node_at, Resolved, known, recovered, World, Choice, resolved}
-use Rattle.pair_world.specs.Changes.{down}
-use Rattle.pair_world.specs.Step.{Event, Bounds, Does}
+use Rattle.pair_world.specs.Changes.{node_down}
+use Rattle.pair_world.specs.Step.{Event, Bounds, ResolvedStep}
 
 -- Nothing happens, or this does.
 abbrev pub AtMost : {E : Type 0} → (Resolved E → Resolved E → Type 0) → Resolved E → Resolved E → Type 0
@@ -12,25 +12,25 @@ AtMost R before after = (after ≡ before) ⊎ R before after
 -- The event is done, and what it told may be missing: the acknowledgement that it made, and the known epoch that it raised.
 pub record DoneUntold {E Q : Type 0} (due : List E → E → Type 0) (bounds : Bounds) (event : Event E Q) (before after : Resolved E) : Type 0 where
   pub done : Resolved E
-  pub does : Does due bounds before event done
+  pub does : ResolvedStep due bounds before event done
   pub same : after ≡ record done { nodes = after.nodes; messages = after.messages }
   pub messages : (after.messages ≡ done.messages) ⊎ (after.messages ≡ before.messages)
   pub states : (n : NodeName) → (node_at after.nodes n ≡ node_at done.nodes n)
       ⊎ (node_at after.nodes n ≡ record (node_at done.nodes n) { known = known before n })
 
 -- A node goes down, and nothing else changes.
-abbrev pub Falls : {E : Type 0} → Resolved E → Resolved E → Type 0
-Falls before after = (n : NodeName) × (after ≡ down before n)
+abbrev pub GoesDown : {E : Type 0} → Resolved E → Resolved E → Type 0
+GoesDown before after = (n : NodeName) × (after ≡ node_down before n)
 
 -- The register is recovered.
 abbrev pub Recovers : {E : Type 0} → Resolved E → Resolved E → Type 0
 Recovers before after = after ≡ recovered before
 
--- From a resolution of the world before, by at most three things: the event, a fall and a recovery.
+-- From a resolution of the world before, by at most three things: the event, a node's going down and a recovery.
 pub record ComesFrom {E Q : Type 0} (due : List E → E → Type 0) (bounds : Bounds) (event : Event E Q) (w v : World E) (choice : Choice) : Type 0 where
   pub choice_before : Choice
   pub done : Resolved E
-  pub fallen : Resolved E
+  pub down : Resolved E
   pub by_event : AtMost (DoneUntold due bounds event) (resolved choice_before w) done
-  pub by_fall : AtMost Falls done fallen
-  pub by_recovery : AtMost Recovers fallen (resolved choice v)
+  pub by_going_down : AtMost GoesDown done down
+  pub by_recovery : AtMost Recovers down (resolved choice v)

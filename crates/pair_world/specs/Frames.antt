@@ -17,12 +17,12 @@ entries journal = map (λ frame. frame.entry) journal
 -- Item k of a list, counted from 1.
 abbrev pub item_at : {A : Type 0} → List A → ℕ → Option A
 item_at items zero = None
-item_at items (suc place) = slice_get items place
+item_at items (suc index) = slice_get items index
 
 -- The epoch of frame k, counted from 1; 0 where there is none.
 abbrev pub epoch_at : {E : Type 0} → List (Frame E) → ℕ → ℕ
 epoch_at journal zero = 0
-epoch_at journal (suc place) = get_or (epochs journal) place 0
+epoch_at journal (suc index) = get_or (epochs journal) index 0
 
 -- The first list begins with the second: the second is a prefix of the first.
 pub record Begins {A : Type 0} (whole start : List A) : Type 0 where
@@ -51,11 +51,11 @@ PastAtLeast n epoch journal = (k : ℕ) → n < k → k ≤ length journal → e
 -- A history is legal: each entry may be booked next after those before it.
 abbrev pub Legal : {E : Type 0} → (List E → E → Type 0) → List (Frame E) → Type 0
 Legal due history =
-    (place : ℕ) (frame : _) → slice_get history place ≡ Some frame → due (entries (take place history)) frame.entry
+    (index : ℕ) (frame : _) → slice_get history index ≡ Some frame → due (entries (take index history)) frame.entry
 
 -- The item stands in the list.
 abbrev pub In : {A : Type 0} → List A → A → Type 0
-In items item = (place : ℕ) × (slice_get items place ≡ Some item)
+In items item = (index : ℕ) × (slice_get items index ≡ Some item)
 
 -- There is an item, and it meets this.
 abbrev pub OnItem : {A : Type 0} → Option A → (A → Type 0) → Type 0

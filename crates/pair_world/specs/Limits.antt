@@ -14,22 +14,22 @@ pub record IsEpoch (bounds : Bounds) (epoch : ℕ) : Type 0 where
 -- A journal within its limit, each of whose frames has an epoch.
 pub record IsJournal {E : Type 0} (bounds : Bounds) (journal : List (Frame E)) : Type 0 where
   pub room : length journal ≤ bounds.frames
-  pub epochs : (place : ℕ) (frame : Frame E) → slice_get journal place ≡ Some frame → IsEpoch bounds frame.epoch
+  pub epochs : (index : ℕ) (frame : Frame E) → slice_get journal index ≡ Some frame → IsEpoch bounds frame.epoch
 
 -- A shipment of a frame that a journal has room for, or of an end that a journal can have. Before it is 0 exactly where
 -- its number is 1.
 pub record IsShipment {E : Type 0} (bounds : Bounds) (x : Shipment E) : Type 0 where
   pub epoch : IsEpoch bounds x.epoch
-  pub end : x.place ≤ bounds.frames
-  pub room : (frame : Frame E) → x.frame ≡ Some frame → x.place < bounds.frames
+  pub end : x.preceding ≤ bounds.frames
+  pub room : (frame : Frame E) → x.frame ≡ Some frame → x.preceding < bounds.frames
   pub frame : (frame : Frame E) → x.frame ≡ Some frame → IsEpoch bounds frame.epoch
-  pub first : x.place ≡ 0 → x.before ≡ 0
-  pub later : 0 < x.place → IsEpoch bounds x.before
+  pub first : x.preceding ≡ 0 → x.before ≡ 0
+  pub later : 0 < x.preceding → IsEpoch bounds x.before
 
 -- The acknowledgement of such a shipment.
 pub record IsAck (bounds : Bounds) (ack : Ack) : Type 0 where
   pub epoch : IsEpoch bounds ack.epoch
-  pub end : ack.place ≤ bounds.frames
+  pub end : ack.preceding ≤ bounds.frames
 
 -- No disk represents more than the limits allow, and no message tells of more.
 pub record IsWithin {E : Type 0} (bounds : Bounds) (w : World E) : Type 0 where

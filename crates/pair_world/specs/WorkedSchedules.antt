@@ -7,7 +7,7 @@ use Rattle.ali_base.specs.declared.duty.Mode.TheVariants.{Both, Alone}
 use Rattle.ali_base.specs.declared.duty.Duty.{Duty}
 use Rattle.pair_world.specs.Frames.{Frame}
 use Rattle.pair_world.specs.World.{Message, Ships, Acks, NodeState, first_duty, World, without_doubt}
-use Rattle.pair_world.specs.Step.{Event, Write, Ship, Deliver, Drop, Book, Take, Go_alone, Pair_up, Stop, Start, Start_duty, Done, Refused, Faulted, Bounds, Completes, Turn}
+use Rattle.pair_world.specs.Step.{Event, Write, Ship, Deliver, Drop, Book, Take, Go_alone, Pair_up, Stop, Start, Start_duty, Done, Refused, Faulted, Bounds, WorldStep, Turn}
 
 -- The limits of the office.
 abbrev pub office_bounds : Bounds
@@ -23,7 +23,7 @@ refused event = record { event = event; outcome = Refused }
 
 -- The event cannot be done in this world, so it is refused.
 abbrev pub IsNotDone : {E Q : Type 0} → (List E → E → Type 0) → World E → Event E Q → Type 0
-IsNotDone due w event = (v : World _) → Completes due office_bounds w event v → ⊥
+IsNotDone due w event = (v : World _) → WorldStep due office_bounds w event v → ⊥
 
 -- The holder passes frame k on, and no acknowledgement is made. So many messages are on their way besides.
 abbrev pub passes : {E Q R : Type 0} → (k besides : ℕ) → List (Turn E Q R)
@@ -51,18 +51,22 @@ node_is up known journal = record { up = up; known = known; journal = journal }
 abbrev pub duty_is : ℕ → NodeName → Mode → ℕ → Duty
 duty_is epoch holder mode floor = record { epoch = epoch; holder = holder; mode = mode; floor = floor }
 
--- A world without doubt, with nothing acknowledged.
-abbrev pub world_is : {E : Type 0} → Duty → List Duty → List (Frame E) → NodeState E → NodeState E → List (Message E) → World E
-world_is duty past booked a b messages =
+-- A world without doubt, with these two acknowledged numbers.
+abbrev pub world_at : {E : Type 0} → Duty → List Duty → List (Frame E) → NodeState E → NodeState E → List (Message E) → (acked ended : ℕ) → World E
+world_at duty past booked a b messages acked ended =
     without_doubt (record {
       duty = duty;
       past = past;
       booked = booked;
       nodes = record { a = a; b = b };
       messages = messages;
-      acked = 0;
-      ended = 0;
+      acked = acked;
+      ended = ended;
     })
+
+-- A world without doubt, with nothing acknowledged.
+abbrev pub world_is : {E : Type 0} → Duty → List Duty → List (Frame E) → NodeState E → NodeState E → List (Message E) → World E
+world_is duty past booked a b messages = world_at duty past booked a b messages 0 0
 
 -- An old shipment after two takeovers. Node a writes and ships an entry; b takes over, writes the entry anew and books it;
 -- a catches up, which cuts its own frame; they pair, and a takes over. Only then the first shipment comes, and is stale.
@@ -83,7 +87,7 @@ after_old_shipment entry =
     (framed entry 2 ∷ [])
     (node_is true 4 (framed entry 2 ∷ []))
     (node_is true 3 (framed entry 2 ∷ []))
-    (Ships (record { sender = A; epoch = 1; place = 0; before = 0; frame = Some (framed entry 1) }) ∷ [])
+    (Ships (record { sender = A; epoch = 1; preceding = 0; before = 0; frame = Some (framed entry 1) }) ∷ [])
 
 -- The uncommitted suffix of a deposed holder. Node a writes an entry and is stopped; b takes over, and a starts again.
 abbrev pub deposed_holder : {E Q R : Type 0} → E → List (Turn E Q R)
@@ -134,8 +138,8 @@ after_stored_then_taken first second third fourth =
     (framed first 1 ∷ framed second 1 ∷ framed third 1 ∷ framed fourth 2 ∷ [])
     (node_is false 1 (framed first 1 ∷ framed second 1 ∷ framed third 1 ∷ []))
     (node_is true 2 (framed first 1 ∷ framed second 1 ∷ framed third 1 ∷ framed fourth 2 ∷ []))
-    (Ships (record { sender = A; epoch = 1; place = 2; before = 1; frame = Some (framed third 1) })
-    ∷ Acks (record { to = A; epoch = 1; place = 2; end = false })
+    (Ships (record { sender = A; epoch = 1; preceding = 2; before = 1; frame = Some (framed third 1) })
+    ∷ Acks (record { to = A; epoch = 1; preceding = 2; end = false })
     ∷ [])
 
 -- Booking waits for the other node in mode Both. With an entry written, no other is written, and it is not booked.

@@ -1,5 +1,5 @@
 -- The replicated world: two nodes, their journals, the duty register and the messages between them.
-use Rattle.std.specs.Prelude.{ℕ, ◌≡◌, ◌⊎◌, min, List, [], ◌∷◌, length, take, reverse, slice_get, Option, Some, None, Bool, true, false, nat_lt, if◌then◌else◌}
+use Rattle.std.specs.Prelude.{ℕ, ◌≡◌, ◌⊎◌, min, List, [], ◌∷◌, length, take, slice_get, Option, Some, None, Bool, true, false, nat_lt, if◌then◌else◌}
 use Rattle.ali_base.specs.declared.names.NodeName.{NodeName}
 use Rattle.ali_base.specs.declared.names.NodeName.TheVariants.{A, B}
 use Rattle.ali_base.specs.declared.duty.Mode.{Mode}
@@ -23,15 +23,15 @@ is_node B B = true
 pub record Shipment (E : Type 0) : Type 0 where
   pub sender : NodeName
   pub epoch : ℕ  -- the present one when it was sent
-  pub place : ℕ  -- how many frames stand before it: the number that it tells is place + 1
+  pub preceding : ℕ  -- how many frames precede it: the number that it tells is one more
   pub before : ℕ  -- the epoch of the sender's frame before it, 0 for none
-  pub frame : Option (Frame E)  -- none for the end: the sender's journal had place frames and no more
+  pub frame : Option (Frame E)  -- none for the end: the sender's journal had the preceding frames and no more
 
 -- The answer to a shipment that was stored or found, on its way to the shipment's sender.
 pub record Ack : Type 0 where
   pub to : NodeName
   pub epoch : ℕ
-  pub place : ℕ
+  pub preceding : ℕ
   pub end : Bool
 
 -- What is on its way between the nodes.
@@ -70,10 +70,6 @@ pub record Resolved (E : Type 0) : Type 0 where
   pub acked : ℕ  -- the greatest number acknowledged in the present epoch
   pub ended : ℕ  -- the number of the greatest end acknowledged in the present epoch, 0 for none
 
--- All duties, the first first.
-abbrev pub all_duties : {E : Type 0} → Resolved E → List Duty
-all_duties w = reverse (w.duty ∷ w.past)
-
 -- The duty of formatted disks.
 abbrev pub first_duty : Duty
 first_duty = record { epoch = 1; holder = A; mode = Both; floor = 0 }
@@ -83,10 +79,14 @@ abbrev pub term : Duty → List Duty → List Duty
 term duty [] = duty ∷ []
 term duty (before ∷ past) = if is_node duty.holder before.holder then duty ∷ term before past else duty ∷ []
 
+-- The epoch of the last of these duties; this one where there are none.
+abbrev pub last_epoch_of : ℕ → List Duty → ℕ
+last_epoch_of epoch [] = epoch
+last_epoch_of epoch (duty ∷ duties) = last_epoch_of duty.epoch duties
+
 -- The first epoch of the term. As epochs count the duties, those from it to the present one are the term's.
 abbrev pub term_from : Duty → List Duty → ℕ
-term_from duty [] = duty.epoch
-term_from duty (before ∷ past) = if is_node duty.holder before.holder then term_from before past else duty.epoch
+term_from duty past = last_epoch_of duty.epoch (term duty past)
 
 -- The holder.
 abbrev pub own : {E : Type 0} → Resolved E → NodeState E
@@ -161,68 +161,68 @@ opened {E} duty past journal_a journal_b =
 abbrev pub formatted : {E : Type 0} → Resolved E
 formatted = opened first_duty [] [] []
 
--- The second journal that a node's disk may represent, after a write that failed.
-pub record SecondJournals (E : Type 0) : Type 0 where
+-- The journal that a node's disk may represent besides, after a write that failed.
+pub record FailedWrites (E : Type 0) : Type 0 where
   pub a : Option (List (Frame E))
   pub b : Option (List (Frame E))
 
--- The second journal of the node's disk.
-abbrev pub second_at : {E : Type 0} → SecondJournals E → NodeName → Option (List (Frame E))
-second_at second A = second.a
-second_at second B = second.b
+-- The journal that a failed write may have left on the node's disk.
+abbrev pub failed_write_at : {E : Type 0} → FailedWrites E → NodeName → Option (List (Frame E))
+failed_write_at failed A = failed.a
+failed_write_at failed B = failed.b
 
--- The second journal of the node's disk changes.
-abbrev pub put_second : {E : Type 0} → SecondJournals E → NodeName → Option (List (Frame E)) → SecondJournals E
-put_second second A journal = record { a = journal; b = second.b }
-put_second second B journal = record { a = second.a; b = journal }
+-- The same, where that of one node changes.
+abbrev pub put_failed_write : {E : Type 0} → FailedWrites E → NodeName → Option (List (Frame E)) → FailedWrites E
+put_failed_write failed A journal = record { a = journal; b = failed.b }
+put_failed_write failed B journal = record { a = failed.a; b = journal }
 
 -- A world, with what a failed write leaves in doubt.
 pub record World (E : Type 0) : Type 0 where
   pub base : Resolved E  -- each disk as before its failed write
-  pub second : SecondJournals E  -- what it may represent besides
+  pub failed_writes : FailedWrites E  -- what it may represent besides
   pub register_up : Bool
   pub failed_duty : Option Duty  -- while the register is down: the duty that a failed change may have written
 
 -- The node's disk may represent this journal.
 abbrev pub MayHold : {E : Type 0} → World E → NodeName → List (Frame E) → Type 0
-MayHold w n journal = ((node_at w.base.nodes n).journal ≡ journal) ⊎ (second_at w.second n ≡ Some journal)
+MayHold w n journal = ((node_at w.base.nodes n).journal ≡ journal) ⊎ (failed_write_at w.failed_writes n ≡ Some journal)
 
 -- The register may represent these duties: the last one, and those before it, the newest first.
 abbrev pub MayRead : {E : Type 0} → World E → Duty → List Duty → Type 0
 MayRead w duty past =
     ((w.base.duty ≡ duty) × (w.base.past ≡ past)) ⊎ ((w.failed_duty ≡ Some duty) × (w.base.duty ∷ w.base.past ≡ past))
 
--- Which list of each disk is taken: true for the second.
+-- Which list of each disk is taken: true where the failed write lasted.
 pub record Choice : Type 0 where
   pub a : Bool
   pub b : Bool
   pub duty : Bool
 
--- Whether the second journal of the node's disk is taken.
+-- Whether the failed write on the node's disk lasted.
 abbrev pub choice_at : Choice → NodeName → Bool
 choice_at choice A = choice.a
 choice_at choice B = choice.b
 
--- The node with its second journal, where there is one and it is taken.
+-- The node with the journal of a failed write, where there was one and it lasted.
 abbrev pub picked_node : {E : Type 0} → Option (List (Frame E)) → Bool → NodeState E → NodeState E
-picked_node None takes_second state = state
+picked_node None lasted state = state
 picked_node (Some journal) true state = record { up = state.up; known = state.known; journal = journal }
 picked_node (Some journal) false state = state
 
 -- The nodes with the journals that are taken.
-abbrev pub picked_nodes : {E : Type 0} → Choice → SecondJournals E → Nodes E → Nodes E
-picked_nodes choice second nodes =
-    record { a = picked_node second.a choice.a nodes.a; b = picked_node second.b choice.b nodes.b }
+abbrev pub picked_nodes : {E : Type 0} → Choice → FailedWrites E → Nodes E → Nodes E
+picked_nodes choice failed nodes =
+    record { a = picked_node failed.a choice.a nodes.a; b = picked_node failed.b choice.b nodes.b }
 
--- The failed duty was written, where there is one and it is taken.
+-- The duty of a failed change, where there was one and it lasted.
 abbrev pub with_failed_duty : {E : Type 0} → Option Duty → Bool → Resolved E → Resolved E
-with_failed_duty None takes_second w = w
+with_failed_duty None lasted w = w
 with_failed_duty (Some duty) true w = with_duty w duty
 with_failed_duty (Some duty) false w = w
 
 -- One journal for each node, under the duty before a failed change.
 abbrev pub unrecovered : {E : Type 0} → Choice → World E → Resolved E
-unrecovered choice w = with_nodes w.base (picked_nodes choice w.second w.base.nodes)
+unrecovered choice w = with_nodes w.base (picked_nodes choice w.failed_writes w.base.nodes)
 
 -- The world resolved: one list of each disk. Where the register is down it is recovered.
 abbrev pub resolved : {E : Type 0} → Choice → World E → Resolved E
@@ -233,7 +233,7 @@ resolved choice w =
 
 -- A world in which each disk represents one list.
 abbrev pub without_doubt : {E : Type 0} → Resolved E → World E
-without_doubt w = record { base = w; second = record { a = None; b = None }; register_up = true; failed_duty = None }
+without_doubt w = record { base = w; failed_writes = record { a = None; b = None }; register_up = true; failed_duty = None }
 
 -- A run that begins now: it opens one list of each disk.
 pub record IsReopened {E : Type 0} (w v : World E) : Type 0 where

@@ -4,8 +4,8 @@ ghost use Rattle.ali_base.specs.declared.names.NodeName.{NodeName};
 ghost use Rattle.ali_base.specs.declared.names.NodeName.TheVariants.{A, B};
 ghost use Rattle.ali_base.specs.declared.duty.Duty.{Duty};
 ghost use Rattle.pair_world.specs.Frames.{Frame, Begins, In};
-ghost use Rattle.pair_world.specs.World.{Resolved, World, Choice, node_at, known, is_up, with_node, second_at, term, term_from, holder_journal, other_journal, MayHold, MayRead, unrecovered, resolved, opened, without_doubt, formatted, with_nodes, picked_nodes};
-ghost use Rattle.pair_world.specs.Step.{Event, Outcome, Done, Answered, Refused, Take, Pair_up, Bounds, Turn, Does, Fails, Step, Runs};
+ghost use Rattle.pair_world.specs.World.{Resolved, World, Choice, node_at, known, is_up, with_node, failed_write_at, term, term_from, holder_journal, other_journal, MayHold, MayRead, unrecovered, resolved, opened, without_doubt, formatted, with_nodes, picked_nodes};
+ghost use Rattle.pair_world.specs.Step.{Event, Outcome, Done, Answered, Refused, Take, Pair_up, Bounds, Turn, ResolvedStep, Fails, Step, Runs};
 ghost use Rattle.pair_world.specs.SoundWorld.{AreCounted, Invariant, IsSound};
 ghost use Rattle.pair_world.specs.FaultOrigin.{ComesFrom};
 ghost use Rattle.pair_world.specs.Limits.{IsWithin};
@@ -35,7 +35,7 @@ pub fn worlds_stay_sound<L: Entries>()
         → IsSound L.due w → Runs L.due L.form bounds w turns v → IsSound L.due v }
     // While the register is up, the nine parts of each resolution are all that is asked.
     ensures exact { (w : World L.Entry) → w.register_up ≡ true → w.failed_duty ≡ None
-        → ((node : NodeName) → is_up w.base node → second_at w.second node ≡ None)
+        → ((node : NodeName) → is_up w.base node → failed_write_at w.failed_writes node ≡ None)
         → ((choice : Choice) → Invariant L.due (resolved choice w)) → IsSound L.due w }
 {}
 
@@ -65,13 +65,13 @@ pub fn history_only_grows<L: Entries>()
 {}
 
 /// A resolved world holds no doubt about a disk, and an event that is done is done in each resolution. After a
-/// fault each resolution comes from one before it, by at most the event, the fall of a node and a recovery.
+/// fault each resolution comes from one before it, by at most the event, a node's going down and a recovery.
 pub fn faults_come_from_steps<L: Entries>()
     ensures alike { (bounds : Bounds) (w : World L.Entry) (event : Event L.Entry L.Request)
         (done : Resolved L.Entry) (choice : Choice)
-        → IsSound L.due w → Does L.due bounds w.base event done
-        → Does L.due bounds (unrecovered choice w) event
-        (with_nodes done (picked_nodes choice w.second done.nodes)) }
+        → IsSound L.due w → ResolvedStep L.due bounds w.base event done
+        → ResolvedStep L.due bounds (unrecovered choice w) event
+        (with_nodes done (picked_nodes choice w.failed_writes done.nodes)) }
     ensures origin { (bounds : Bounds) (w v : World L.Entry) (event : Event L.Entry L.Request)
         (choice : Choice)
         → IsSound L.due w → Fails L.due bounds w event v → ComesFrom L.due bounds event w v choice }

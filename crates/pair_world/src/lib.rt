@@ -18,5 +18,5 @@ pub use needed::{
 };
 pub use worked::{
     bookings_wait_for_both, failed_takeovers_may_last, old_shipments_are_stale,
-    old_suffixes_are_cut, takeovers_book_what_is_stored,
+    takeovers_book_what_is_stored, uncommitted_suffixes_are_cut,
 };

@@ -5,15 +5,15 @@ ghost use Rattle.std.specs.Prelude.{◌≡◌, ◌⊎◌, [], ◌∷◌};
 ghost use Rattle.ali_base.specs.declared.names.NodeName.TheVariants.{A, B};
 ghost use Rattle.ali_base.specs.declared.duty.Mode.TheVariants.{Both, Alone};
 ghost use Rattle.pair_world.specs.Frames.{Begins, Agree, Legal};
-ghost use Rattle.pair_world.specs.SoundWorld.{IsMirrored, HasOldSuffix};
+ghost use Rattle.pair_world.specs.SoundWorld.{IsMirrored, HasUncommittedSuffix, Booked, Mirrored, Following, In_time, Current, Acknowledged, Known, Floored};
 ghost use Rattle.pair_world.specs.World.{Resolved, holder_journal, other_journal};
 ghost use Rattle.pair_world.specs.Step.{Book, Take, Runs};
-ghost use Rattle.pair_world.specs.NeededParts.{Booked, Mirrored, Following, In_time, Current, Acknowledged, Known, Floored, HasOthers, Loses, not_due, booked_all_the_same, after_not_due, not_mirrored, young_suffix, paired_early, after_young_suffix, not_agreeing, paired_apart, after_not_agreeing, early_ack, booked_unstored, after_early_ack, not_current, stored_stray, after_stray, not_stored, after_not_stored, stored_after_start, high_floor, recovered_too_far, after_high_floor};
+ghost use Rattle.pair_world.specs.NeededParts.{HasOthers, Loses, RunsToLoss, not_due, booked_all_the_same, after_not_due, not_mirrored, young_suffix, paired_early, after_young_suffix, not_agreeing, paired_apart, after_not_agreeing, early_ack, booked_unstored, after_early_ack, not_current, stored_stray, after_stray, not_stored, after_not_stored, stored_after_start, high_floor, recovered_too_far, after_high_floor};
 ghost use Rattle.pair_world.specs.WorkedSchedules.{office_bounds, done};
 
 use crate::laws::Entries;
 
-/// Without the part `booked`, an entry is booked that may not be booked next.
+/// Without the part `Booked`, an entry is booked that may not be booked next.
 pub fn booked_is_needed<L: Entries>()
     ensures not_due { (entry : L.Entry) → HasOthers L.due Booked (not_due entry).base }
     ensures not_due_runs { (entry : L.Entry)
@@ -23,7 +23,7 @@ pub fn booked_is_needed<L: Entries>()
         → Legal L.due (after_not_due entry).base.booked → ⊥ }
 {}
 
-/// Without the part `mirrored`, a takeover loses what was booked.
+/// Without the part `Mirrored`, a takeover loses what was booked.
 pub fn mirrored_is_needed<L: Entries>()
     ensures not_mirrored { (entry : L.Entry) → L.due [] entry
         → HasOthers L.due Mirrored (not_mirrored entry).base }
@@ -31,7 +31,7 @@ pub fn mirrored_is_needed<L: Entries>()
         → Loses {Q = L.Request} L.due (not_mirrored entry) (Take B) }
 {}
 
-/// Without the part `following`, a pair is made of two journals.
+/// Without the part `Following`, a pair is made of two journals.
 pub fn following_is_needed<L: Entries>()
     ensures young_suffix { (entry : L.Entry) → HasOthers L.due Following (young_suffix entry).base }
     ensures young_suffix_runs { (entry : L.Entry)
@@ -39,30 +39,26 @@ pub fn following_is_needed<L: Entries>()
         (after_young_suffix entry) }
 {}
 
-/// Agreement follows from `mirrored` and `following`. Without it, a pair is made of two journals, and a takeover
+/// Agreement follows from `Mirrored` and `Following`. Without it, a pair is made of two journals, and a takeover
 /// loses what was booked.
 pub fn agreement_follows<L: Entries>()
     ensures agreement { (w : Resolved L.Entry) → (w.duty.mode ≡ Both → IsMirrored w)
-        → (w.duty.mode ≡ Alone → Begins (holder_journal w) (other_journal w) ⊎ HasOldSuffix w)
+        → (w.duty.mode ≡ Alone → Begins (holder_journal w) (other_journal w) ⊎ HasUncommittedSuffix w)
         → Agree (holder_journal w) (other_journal w) }
-    ensures not_agreeing_runs { (one another : L.Entry)
-        → Runs L.due L.form office_bounds (not_agreeing one another) paired_apart
-        (after_not_agreeing one another) }
-    ensures not_agreeing_loses { (one another : L.Entry) → (one ≡ another → ⊥)
-        → Loses {Q = L.Request} L.due (after_not_agreeing one another) (Take A) }
+    ensures not_agreeing { (one another : L.Entry) → (one ≡ another → ⊥)
+        → RunsToLoss L.due L.form (not_agreeing one another) paired_apart
+        (after_not_agreeing one another) (Take A) }
 {}
 
-/// Without the part `in_time`, a takeover loses what was booked.
+/// Without the part `In_time`, a takeover loses what was booked.
 pub fn in_time_is_needed<L: Entries>()
     ensures early_ack { HasOthers {E = L.Entry} L.due In_time early_ack.base }
-    ensures early_ack_runs { (entry : L.Entry) → L.due [] entry
-        → Runs L.due L.form office_bounds early_ack (booked_unstored entry)
-        (after_early_ack entry) }
-    ensures early_ack_loses { (entry : L.Entry)
-        → Loses {Q = L.Request} L.due (after_early_ack entry) (Take B) }
+    ensures early_ack_loses { (entry : L.Entry) → L.due [] entry
+        → RunsToLoss L.due L.form early_ack (booked_unstored entry)
+        (after_early_ack entry) (Take B) }
 {}
 
-/// Without the part `current`, an entry is booked that may not be booked next.
+/// Without the part `Current`, an entry is booked that may not be booked next.
 pub fn current_is_needed<L: Entries>()
     ensures not_current { (first stray : L.Entry) → L.due [] first
         → HasOthers L.due Current (not_current 1 first stray).base }
@@ -73,18 +69,16 @@ pub fn current_is_needed<L: Entries>()
         → Legal L.due (after_stray first stray).base.booked → ⊥ }
 {}
 
-/// Without the part `acknowledged`, a takeover loses what was booked.
+/// Without the part `Acknowledged`, a takeover loses what was booked.
 pub fn acknowledged_is_needed<L: Entries>()
     ensures not_stored { (entry : L.Entry) → L.due [] entry
         → HasOthers L.due Acknowledged (not_stored entry).base }
-    ensures not_stored_runs { (entry : L.Entry)
-        → Runs L.due L.form office_bounds (not_stored entry) (done Book ∷ [])
-        (after_not_stored entry) }
     ensures not_stored_loses { (entry : L.Entry)
-        → Loses {Q = L.Request} L.due (after_not_stored entry) (Take B) }
+        → RunsToLoss L.due L.form (not_stored entry) (done Book ∷ [])
+        (after_not_stored entry) (Take B) }
 {}
 
-/// Without the part `known`, an entry is booked that may not be booked next: what is reached here is the world of
+/// Without the part `Known`, an entry is booked that may not be booked next: what is reached here is the world of
 /// `current_is_needed`.
 pub fn known_is_needed<L: Entries>()
     ensures known_later { (first stray : L.Entry) → L.due [] first
@@ -94,13 +88,11 @@ pub fn known_is_needed<L: Entries>()
         (after_stray first stray) }
 {}
 
-/// Without the part `floored`, a takeover loses what was booked.
+/// Without the part `Floored`, a takeover loses what was booked.
 pub fn floored_is_needed<L: Entries>()
     ensures high_floor { (entry : L.Entry) → L.due [] entry
         → HasOthers L.due Floored (high_floor entry).base }
-    ensures high_floor_runs { (entry : L.Entry)
-        → Runs L.due L.form office_bounds (high_floor entry) recovered_too_far
-        (after_high_floor entry) }
     ensures high_floor_loses { (entry : L.Entry)
-        → Loses {Q = L.Request} L.due (after_high_floor entry) (Take B) }
+        → RunsToLoss L.due L.form (high_floor entry) recovered_too_far
+        (after_high_floor entry) (Take B) }
 {}

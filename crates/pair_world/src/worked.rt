@@ -16,7 +16,7 @@ pub fn old_shipments_are_stale<L: Entries>()
 {}
 
 /// What a deposed holder wrote and never booked is cut when it catches up.
-pub fn old_suffixes_are_cut<L: Entries>()
+pub fn uncommitted_suffixes_are_cut<L: Entries>()
     ensures deposed_holder { (entry : L.Entry) → L.due [] entry
         → Runs L.due L.form office_bounds (without_doubt formatted) (deposed_holder entry)
         (after_deposed_holder entry) }
