@@ -3,3 +3,4 @@ pub mod Trimming
 pub mod PutBytes
 pub mod Puts
 pub mod Steps
+pub mod DayTexts

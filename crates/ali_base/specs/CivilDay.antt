@@ -1,5 +1,5 @@
 -- Civil days of the years 2000 to 2099, written MMDDYY.
-use Rattle.std.specs.Prelude.{ℕ, ◌+◌, ◌-◌, ◌==◌, ◌&&◌, Bool, nat_le, List, ◌++◌, length, ℤ, pos, ◌-ℤ◌, Option, None, if◌then◌else◌}
+use Rattle.std.specs.Prelude.{◌≡◌, ℕ, ◌+◌, ◌-◌, ◌==◌, ◌≤◌, ◌&&◌, Bool, true, nat_le, List, ◌++◌, length, ℤ, pos, ◌-ℤ◌, Option, None, if◌then◌else◌}
 use Rattle.jiff_core.specs.Calendar.{days_in_month, days_from_civil}
 use Rattle.ali_base.specs.Steps.{◌>>=◌, when}
 use Rattle.ali_base.specs.Columns.{columns}
@@ -14,6 +14,12 @@ pub record CivilDay : Type 0 where
 -- the calendar has this day
 abbrev pub is_civil_date : ℕ → ℕ → ℕ → Bool
 is_civil_date year month day = nat_le 1 month && nat_le month 12 && nat_le 1 day && nat_le day (days_in_month (pos year) month)
+
+-- a day of the years 2000 to 2099 that the calendar has
+pub record IsDay (d : CivilDay) : Type 0 where
+  pub from : 2000 ≤ d.year
+  pub to : d.year ≤ 2099
+  pub civil : is_civil_date d.year d.month d.day ≡ true
 
 -- the day of this number of the century's years, where the calendar has it
 abbrev pub day_in_century : ℕ → ℕ → ℕ → Option CivilDay

@@ -1,7 +1,7 @@
 //! Civil days.
 ghost use Rattle.std.specs.Prelude.{◌≡◌, ◌≤◌, ◌<◌, length, pos};
 ghost use Rattle.ali_base.specs.Numbers.{zero_padded};
-ghost use Rattle.ali_base.specs.CivilDay.{day_of, day_text, days_between, written_day, day_in_century, is_civil_date};
+ghost use Rattle.ali_base.specs.CivilDay.{IsDay, day_of, day_text, days_between, written_day, day_in_century, is_civil_date};
 ghost use Rattle.jiff_core.specs.Date.{IsYmd};
 
 use crate::fields::{columns, digits_number};
@@ -43,7 +43,8 @@ impl Day {
 
     /// The day as MMDDYY.
     pub fn text(self) -> [u8; 6]
-        ensures { result ≡ day_text self }
+        ensures text { result ≡ day_text self }
+        ensures day { IsDay self }
     {
         let [m1, m2] = two_digits(self.month);
         let [d1, d2] = two_digits(self.day);
