@@ -1,6 +1,8 @@
 -- A field that is read is the field that was written, and what was written is read again.
 use Rattle.std.proofs.Common.{◌≡◌, ℕ, zero, suc, ◌^◌, ◌<◌, ◌≤◌, Bool, true, false, cond, nat_lt, List, [], ◌∷◌, ◌++◌, length, get_or, take, drop, Option, Some, None, refl, sym, ap, subst, ◌∙◌, append_assoc, arith}
 use Rattle.std.specs.Int.{w32, from_be_bytes}
+use Rattle.std.specs.List.{All, AllByRecursion}
+use Rattle.std.proofs.lemmas.List.Elements.{recursion_from_All}
 use Rattle.std.proofs.lemmas.Bool.Decides.{nat_tests}
 use Rattle.std.proofs.lemmas.List.{take_at, drop_at, take-append-drop, length-append, length-take-le}
 use Rattle.std.proofs.lemmas.Nat.{be_bytes_4, from_be_bytes-to_be_bytes_4}
@@ -13,11 +15,19 @@ use Rattle.ali_base.proofs.Steps.{bind_ok, bind_some, some_is}
 abbrev pub IsBytes : List ℕ → Type 0
 IsBytes bytes = (i : ℕ) → get_or bytes i 0 < 256
 
+pub all_bytes : (bytes : List ℕ) → All (λ byte. byte < 2 ^ 8) bytes → IsBytes bytes
+all_bytes bytes all = fits bytes (recursion_from_All (λ byte. byte < 2 ^ 8) bytes all)
+  where
+    fits : (bytes : List ℕ) → AllByRecursion (λ byte. byte < 2 ^ 8) bytes → IsBytes bytes
+    fits [] h i = omega arith
+    fits (x ∷ xs) h zero = h.0
+    fits (x ∷ xs) h (suc i) = fits xs h.1 i
+
 pub rest_fits : (text rest : List ℕ) → IsBytes (text ++ rest) → IsBytes rest
 rest_fits [] rest h = h
 rest_fits (x ∷ xs) rest h = rest_fits xs rest (λ i. h (suc i))
 
-text_fits : (text rest : List ℕ) → IsBytes (text ++ rest) → IsBytes text
+pub text_fits : (text rest : List ℕ) → IsBytes (text ++ rest) → IsBytes text
 text_fits [] rest h i = omega arith
 text_fits (x ∷ xs) rest h zero = h zero
 text_fits (x ∷ xs) rest h (suc i) = text_fits xs rest (λ j. h (suc j)) i

@@ -5,3 +5,4 @@ pub mod NumberTexts
 pub mod Marks
 pub mod StreetTexts
 pub mod EditTexts
+pub mod EntriesOfBytes

@@ -6,3 +6,5 @@ pub mod EditBytes
 pub mod EditReading
 pub mod BytesReading
 pub mod Entries
+pub mod EntryBytes
+pub mod EntryReading

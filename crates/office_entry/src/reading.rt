@@ -10,17 +10,17 @@ use crate::edit_key::EditKey;
 use crate::esn_sent::EsnSent;
 use ali_base::{House, Parity, StreetKey};
 
-// The first bytes, and what is left after them.
+/// The first bytes, and what is left after them.
 #[tactic(auto, unfolding(crate::specs::BytesReading::front))]
-fn front<const N: usize>(bytes: &[u8]) -> Option<(&[u8; N], &[u8])>
+pub(crate) fn front<const N: usize>(bytes: &[u8]) -> Option<(&[u8; N], &[u8])>
     ensures { option_map (λ x. (x.0.now, x.1.now)) result ≡ front N bytes.now }
 {
     bytes.split_first_chunk::<N>()
 }
 
-// A number of four bytes, the highest first, and what is left after it.
+/// A number of four bytes, the highest first, and what is left after it.
 #[tactic(auto, unfolding(crate::specs::BytesReading::number_at))]
-fn number_at(bytes: &[u8]) -> Option<(u32, &[u8])>
+pub(crate) fn number_at(bytes: &[u8]) -> Option<(u32, &[u8])>
     ensures { option_map (λ x. (x.0, x.1.now)) result ≡ number_at bytes.now }
 {
     let (number, rest) = front::<4>(bytes)?;
