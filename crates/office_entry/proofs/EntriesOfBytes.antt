@@ -1,11 +1,11 @@
 -- Entries and their bytes.
-use Rattle.std.proofs.Common.{◌≡◌, ◌==◌, inl, inr, ℕ, zero, suc, ◌-◌, ◌^◌, ◌<◌, ◌≤◌, ◌&&◌, Bool, true, false, nat_le, List, [], ◌∷◌, ◌++◌, length, Option, Some, None, refl, sym, ap, subst, ◌∙◌, append_assoc, length-append, arith}
+use Rattle.std.proofs.Common.{◌≡◌, ◌==◌, inl, inr, ℕ, zero, suc, ◌-◌, ◌^◌, ◌<◌, ◌≤◌, ◌&&◌, true, nat_le, List, [], ◌∷◌, ◌++◌, length, Option, Some, None, refl, sym, ap, subst, ◌∙◌, append_assoc, length-append, arith}
 use Rattle.std.specs.Prelude.{replicate}
 use Rattle.std.proofs.lemmas.Bool.{and_parts, and_from}
 use Rattle.std.proofs.lemmas.Bool.Decides.{nat_tests}
 use Rattle.std.proofs.lemmas.List.{length-replicate}
 use Rattle.std.proofs.lemmas.Option.{cond_some}
-use Rattle.ali_base.specs.CivilDay.{CivilDay, IsDay, day_of, day_text}
+use Rattle.ali_base.specs.CivilDay.{CivilDay, day_of, day_text}
 use Rattle.ali_base.specs.Company.{is_company, company_of}
 use Rattle.ali_base.specs.Parity.{parity_text}
 use Rattle.ali_base.specs.declared.parity.Parity.{Parity}
@@ -24,7 +24,7 @@ use Rattle.office_entry.specs.BytesReading.{front, number_at, edit_from}
 use Rattle.office_entry.specs.EntryBytes.{IsInRange, IsCycle, entry_fields, entry_bytes, zero_filled}
 use Rattle.office_entry.specs.EntryReading.{are_zeros, number_within, open_from, line_from, edit_width, edit_entry_from, entry_from}
 use Rattle.office_entry.proofs.EditsOfBytes.{edit_found, edit_again}
-use Rattle.office_entry.proofs.FieldBytes.{IsBytes, Takes, Takes-then, front_takes, front_again, number_takes, number_again, text_fits}
+use Rattle.office_entry.proofs.FieldBytes.{IsBytes, Takes-then, front_takes, front_again, number_takes, number_again, text_fits}
 use Rattle.office_entry.proofs.Options.{when_true, choose}
 
 -- ---- zeros

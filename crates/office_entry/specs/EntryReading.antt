@@ -1,5 +1,5 @@
 -- Reading the bytes of an entry from their front.
-use Rattle.std.specs.Prelude.{ℕ, ◌==◌, ◌&&◌, Bool, nat_le, List, [], ◌∷◌, Option, Some, None, if◌then◌else◌}
+use Rattle.std.specs.Prelude.{ℕ, ◌==◌, ◌&&◌, Bool, nat_le, List, [], ◌∷◌, Option, None, if◌then◌else◌}
 use Rattle.std.specs.List.{list_all}
 use Rattle.ali_base.specs.CivilDay.{day_of}
 use Rattle.ali_base.specs.Company.{company_of}

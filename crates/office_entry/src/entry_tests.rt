@@ -1,4 +1,6 @@
 //! Entries as bytes.
+ghost use Rattle.std.specs.Prelude.{◌<◌, ◌≤◌};
+
 use super::*;
 use ali_base::{Company, Cycle, Day, Editor, Serial};
 use std::test::Fail;
@@ -38,7 +40,9 @@ fn line_bytes() -> Option<[u8; 631]> {
 }
 
 // Whether the bytes begin so, have only zeros after so many, and come back from the entry that they are.
-fn is_entry(bytes: Option<[u8; 631]>, front: &[u8], len: usize) -> bool {
+fn is_entry(bytes: Option<[u8; 631]>, front: &[u8], len: usize) -> bool
+    requires { len ≤ 631 }
+{
     match bytes {
         Some(bytes) => match Entry::from_bytes(&bytes) {
             Some(entry) => {
@@ -65,7 +69,9 @@ fn entries_are_written_and_read(rt: HostRuntime) -> Result<(), Fail> {
 }
 
 // Whether the bytes are no entry's once this place has this byte.
-fn is_refused(bytes: Option<[u8; 631]>, place: usize, byte: u8) -> bool {
+fn is_refused(bytes: Option<[u8; 631]>, place: usize, byte: u8) -> bool
+    requires { place < 631 }
+{
     match bytes {
         Some(bytes) => {
             let mut changed = bytes;
