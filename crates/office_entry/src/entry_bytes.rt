@@ -1,6 +1,5 @@
 //! Entries as bytes, and back.
-ghost use Rattle.std.specs.Prelude.{◌≡◌, ◌≤◌, length, Some, IfSome};
-ghost use Rattle.office_entry.specs.Entries.{IsEntry};
+ghost use Rattle.std.specs.Prelude.{◌≡◌, Some, IfSome};
 ghost use Rattle.office_entry.specs.EntryBytes.{IsInRange, entry_fields, entry_bytes};
 ghost use Rattle.office_entry.specs.EntryReading.{entry_from};
 
