@@ -1,0 +1,3 @@
+pub mod DiskState
+pub mod CrashOutcomes
+pub mod Moments
