@@ -1,3 +1,7 @@
 pub mod DiskState
 pub mod CrashOutcomes
 pub mod Moments
+pub mod CallRecord
+pub mod Recording
+pub mod CrashImages
+pub mod MemoryDisk

@@ -2,5 +2,9 @@
 #![tactic(auto)]
 
 mod disk;
+mod image;
+mod kept;
+mod record;
 
 pub use disk::{Disk, Failed};
+pub use kept::Kept;

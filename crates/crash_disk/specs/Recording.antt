@@ -1,0 +1,40 @@
+-- How the record of calls is kept: the pieces that were written stand one after the other.
+use Rattle.std.specs.Prelude.{ℕ, ◌+◌, ◌-◌, ◌≤◌, List, ◌∷◌, take, drop, map, reverse}
+use Rattle.std.specs.List.{All}
+use Rattle.crash_disk.specs.CallRecord.{DiskCall, Looked, Wrote, Synced}
+use Rattle.crash_disk.specs.declared.record.Call.{Call}
+use Rattle.crash_disk.specs.declared.record.Call.TheVariants as Kept
+
+-- calls: the newest first. room: the record's, in bytes. left: what is left of it
+pub record RecordState : Type 0 where
+  pub calls : List DiskCall
+  pub room : ℕ
+  pub left : ℕ
+
+-- what a call with a piece of so many bytes takes of the room
+abbrev pub cost : ℕ → ℕ
+cost count = 32 + count
+
+-- one call more, with a piece of so many bytes
+abbrev pub with_call : RecordState → ℕ → DiskCall → RecordState
+with_call r count call = record r { calls = call ∷ r.calls; left = r.left - cost count }
+
+-- a call with its piece
+abbrev pub told : List ℕ → Call → DiskCall
+told pieces Kept.Looked = Looked
+told pieces (Kept.Wrote at from count done) = Wrote at (take count (drop from pieces)) done
+told pieces Kept.Synced = Synced
+
+-- all of them, of which the oldest stands first
+abbrev pub recorded : List ℕ → List Call → List DiskCall
+recorded pieces calls = reverse (map (told pieces) calls)
+
+-- where the piece of a call ends
+abbrev pub piece_end : Call → ℕ
+piece_end Kept.Looked = 0
+piece_end (Kept.Wrote at from count done) = from + count
+piece_end Kept.Synced = 0
+
+-- each piece stands among so many bytes
+abbrev pub AllWithin : ℕ → List Call → Type 0
+AllWithin size calls = All (λ call. piece_end call ≤ size) calls

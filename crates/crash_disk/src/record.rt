@@ -1,0 +1,102 @@
+//! The record of a disk's calls.
+ghost use Rattle.std.specs.Prelude.{◌≡◌, ◌+◌, ◌≤◌, [], length, nat_le, IfOk};
+ghost use Rattle.crash_disk.specs.CallRecord.{Looked, Wrote, Synced};
+ghost use Rattle.crash_disk.specs.Recording.{cost, with_call};
+
+use crate::image::append;
+use ali_base::NoMemory;
+use std::alloc::Global;
+use std::marker::Model;
+
+/// What a call did to the bytes.
+#[derive(Clone, Copy, Debug, PartialEq, Eq)]
+pub enum Call {
+    /// It changed nothing.
+    Looked,
+    /// It wrote so many bytes at a place, where it was done. They stand among the pieces, from
+    /// there on.
+    Wrote {
+        at: u64,
+        from: usize,
+        count: usize,
+        done: bool,
+    },
+    /// It synced.
+    Synced,
+}
+
+/// The calls in the order in which they came, and the pieces that were written, one after the other.
+#[derive(Drop)]
+pub struct Record {
+    calls: Vec<Call>,
+    pieces: Vec<u8>,
+    room: usize,
+    left: usize,
+}
+
+impl Model for Record {
+    ghost use Rattle.std.specs.Prelude.{◌+◌, ◌*◌, ◌<◌, ◌≤◌, length, vec_capacity};
+    ghost use Rattle.crash_disk.specs.Recording.{RecordState, recorded, AllWithin};
+
+    ghost Value = { RecordState };
+
+    ghost view = { λ r. record { calls = recorded r.pieces.items r.calls.items; room = r.room; left = r.left } };
+
+    ghost invariant = { λ r. (32 * length r.calls.items + length r.pieces.items + r.left ≤ r.room)
+        × (r.room < 32 * (vec_capacity r.calls + 1)) × (r.room ≤ vec_capacity r.pieces)
+        × AllWithin (length r.pieces.items) r.calls.items };
+}
+
+impl Record {
+    /// An empty record with so many bytes of room, which are taken here.
+    pub fn new(alloc: Global, room: usize) -> Result<Record, NoMemory>
+        ensures { IfOk result (λ r. r ≡ record { calls = []; room = room; left = room }) }
+    {
+        Ok(Record {
+            calls: Vec::with_capacity(alloc, room / 32)?,
+            pieces: Vec::with_capacity(alloc, room)?,
+            room,
+            left: room,
+        })
+    }
+
+    /// Whether there is room for a call with a piece of so many bytes.
+    pub fn has_room(&self, count: usize) -> bool
+        ensures { result ≡ nat_le (cost count) self.now.left }
+    {
+        32 <= self.left && count <= self.left - 32
+    }
+
+    /// Records a call that changed nothing.
+    pub fn look(&mut self)
+        requires { 32 ≤ self.old.left }
+        ensures { self.new ≡ with_call self.old 0 Looked }
+    {
+        self.calls.push_reserved(Call::Looked);
+        self.left -= 32;
+    }
+
+    /// Records a sync.
+    pub fn sync(&mut self)
+        requires { 32 ≤ self.old.left }
+        ensures { self.new ≡ with_call self.old 0 Synced }
+    {
+        self.calls.push_reserved(Call::Synced);
+        self.left -= 32;
+    }
+
+    /// Records a write, which was done or failed.
+    pub fn write(&mut self, at: u64, piece: &[u8], done: bool)
+        requires { cost (length piece.now) ≤ self.old.left }
+        ensures { self.new ≡ with_call self.old (length piece.now) (Wrote at piece.now done) }
+    {
+        self.calls.push_reserved(Call::Wrote {
+            at,
+            from: self.pieces.len(),
+            count: piece.len(),
+            done,
+        });
+        append(&mut self.pieces, piece);
+        self.left -= 32 + piece.len();
+    }
+}
