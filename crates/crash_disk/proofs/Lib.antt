@@ -1,5 +1,7 @@
 pub mod Runs
 pub mod TornBytes
-pub mod WrittenOver
-pub mod RecordedCalls
-pub mod MemoryLaws
+mod WrittenOver
+mod RecordedCalls
+mod CallLaws
+mod Images
+mod Replays

@@ -1,10 +1,11 @@
 -- The record as it is kept: a call more, and a part of the calls.
-use Rattle.std.proofs.Common.{◌≡◌, ℕ, ◌≤◌, Bool, List, [], ◌∷◌, ◌++◌, length, take, drop, map, reverse, suc, refl, sym, ◌∙◌, ap, arith, length-drop}
-use Rattle.std.proofs.lemmas.List.{take-append-le, drop-append-le, take_all, drop_at, map-append, reverse-append}
-use Rattle.crash_disk.specs.CallRecord.{Wrote}
-use Rattle.crash_disk.specs.Recording.{told, recorded, piece_end, AllWithin}
-use Rattle.crash_disk.specs.declared.record.Call.{Call}
-use Rattle.crash_disk.specs.declared.record.Call.TheVariants as Kept
+use Rattle.std.proofs.Common.{◌≡◌, ℕ, ◌+◌, ◌<◌, ◌≤◌, Bool, true, false, List, [], ◌∷◌, ◌++◌, length, take, drop, map, reverse, get_or, suc, refl, sym, ◌∙◌, ap, arith, length-drop}
+use Rattle.std.proofs.lemmas.List.{take-append-le, drop-append-le, take_all, drop_at, map-append, reverse-append, take-append-drop, take_more}
+use Rattle.crash_disk.specs.CallRecord.{DiskCall, Wrote}
+use Rattle.crash_disk.specs.CrashImages.{up_to_sync, since_sync}
+use Rattle.crash_disk.specs.Recording.{told, recorded, piece_end, is_sync, AllWithin}
+use Rattle.crash_disk.specs.declared.calls.Call.{Call}
+use Rattle.crash_disk.specs.declared.calls.Call.TheVariants as Kept
 
 -- pieces of later calls play no part
 told_before : (pieces more : List ℕ) (call : Call) → piece_end call ≤ length pieces → told (pieces ++ more) call ≡ told pieces call
@@ -33,3 +34,35 @@ recorded_write pieces piece calls at from done within is =
   where
     own : take (length piece) (drop from (pieces ++ piece)) ≡ piece
     own = ap (λ l. take (length piece) l) (drop_at pieces piece from (sym is)) ∙ take_all (length piece) piece (omega arith)
+
+-- a part of the calls is recorded before the rest
+pub recorded_parts : (pieces : List ℕ) (first rest : List Call) → recorded pieces (first ++ rest) ≡ recorded pieces rest ++ recorded pieces first
+recorded_parts pieces first rest = ap reverse (map-append (told pieces) first rest) ∙ reverse-append (map (told pieces) first) (map (told pieces) rest)
+
+pub recorded_split : (pieces : List ℕ) (n : ℕ) (calls : List Call) → recorded pieces calls ≡ recorded pieces (drop n calls) ++ recorded pieces (take n calls)
+recorded_split pieces n calls = ap (recorded pieces) (sym (take-append-drop n calls)) ∙ recorded_parts pieces (take n calls) (drop n calls)
+
+-- the first calls, and the one behind them
+pub recorded_next : (pieces : List ℕ) (n : ℕ) (calls : List Call) (d : Call) → n < length calls → recorded pieces (take (n + 1) calls) ≡ told pieces (get_or calls n d) ∷ recorded pieces (take n calls)
+recorded_next pieces n calls d within = ap (recorded pieces) (take_more calls n d within) ∙ recorded_more pieces (take n calls) (get_or calls n d)
+
+-- the last sync, looked for from the newest call on
+pub up_to_here : (pieces : List ℕ) (call : Call) (earlier : List DiskCall) → is_sync call ≡ true → up_to_sync (told pieces call ∷ earlier) ≡ told pieces call ∷ earlier
+up_to_here pieces Kept.Looked earlier is = absurd (cc)
+up_to_here pieces (Kept.Wrote at from count done) earlier is = absurd (cc)
+up_to_here pieces Kept.Synced earlier is = refl
+
+pub since_here : (pieces : List ℕ) (call : Call) (earlier : List DiskCall) → is_sync call ≡ true → since_sync (told pieces call ∷ earlier) ≡ []
+since_here pieces Kept.Looked earlier is = absurd (cc)
+since_here pieces (Kept.Wrote at from count done) earlier is = absurd (cc)
+since_here pieces Kept.Synced earlier is = refl
+
+pub up_to_before : (pieces : List ℕ) (call : Call) (earlier : List DiskCall) → is_sync call ≡ false → up_to_sync (told pieces call ∷ earlier) ≡ up_to_sync earlier
+up_to_before pieces Kept.Looked earlier is = refl
+up_to_before pieces (Kept.Wrote at from count done) earlier is = refl
+up_to_before pieces Kept.Synced earlier is = absurd (cc)
+
+pub since_before : (pieces : List ℕ) (call : Call) (earlier : List DiskCall) → is_sync call ≡ false → since_sync (told pieces call ∷ earlier) ≡ told pieces call ∷ since_sync earlier
+since_before pieces Kept.Looked earlier is = refl
+since_before pieces (Kept.Wrote at from count done) earlier is = refl
+since_before pieces Kept.Synced earlier is = absurd (cc)

@@ -1,5 +1,5 @@
 -- What a crash leaves of the bytes that were not synced: the old ones, the new ones, or one byte everywhere.
-use Rattle.std.specs.Prelude.{ℕ, ◌+◌, ◌-◌, true, false, List, [], ◌∷◌, ◌++◌, length, take, drop, map, replicate}
+use Rattle.std.specs.Prelude.{ℕ, ◌+◌, ◌-◌, Bool, true, false, List, [], ◌∷◌, ◌++◌, length, take, drop, min, replicate}
 use Rattle.crash_disk.specs.CallRecord.{DiskCall, Looked, Wrote, Synced, content}
 use Rattle.crash_disk.specs.declared.kept.Kept.{Kept}
 use Rattle.crash_disk.specs.declared.kept.Kept.TheVariants.{Old, New, Fill}
@@ -20,17 +20,19 @@ since_sync (Synced ∷ earlier) = []
 
 -- one byte in all of the range of n bytes at a place, as far as there are bytes
 abbrev pub filled_range : ℕ → ℕ → ℕ → List ℕ → List ℕ
-filled_range byte at n f = take at f ++ map (λ old. byte) (take n (drop at f)) ++ drop (at + n) f
+filled_range byte at n f = take at f ++ replicate (min n (length f - at)) byte ++ drop (at + n) f
+
+-- the same after a write of n bytes at a place, which lengthened them where it was done
+abbrev pub filled_write : ℕ → ℕ → ℕ → Bool → List ℕ → List ℕ
+filled_write byte at n true f = filled_range byte at n (f ++ replicate (at + n - length f) byte)
+filled_write byte at n false f = filled_range byte at n f
 
 -- one byte wherever these calls wrote, and in all that they added
 abbrev pub filled : ℕ → List ℕ → List DiskCall → List ℕ
 filled byte f [] = f
 filled byte f (Looked ∷ earlier) = filled byte f earlier
-filled byte f (Wrote at piece true ∷ earlier) =
-    let before = filled byte f earlier in
-    filled_range byte at (length piece) (before ++ replicate (at + length piece - length before) byte)
-filled byte f (Wrote at piece false ∷ earlier) =
-    filled_range byte at (length piece) (filled byte f earlier)
+filled byte f (Wrote at piece done ∷ earlier) =
+    filled_write byte at (length piece) done (filled byte f earlier)
 filled byte f (Synced ∷ earlier) = filled byte f earlier
 
 -- what is left of a disk that held these bytes, after these calls

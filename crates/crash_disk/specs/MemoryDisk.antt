@@ -1,9 +1,10 @@
 -- A disk in memory: its state, and what each call answers and leaves.
-use Rattle.std.specs.Prelude.{ℕ, ◌+◌, ◌-◌, ◌==◌, ◌||◌, Bool, not, nat_le, List, [], ◌∷◌, if◌then◌else◌}
+use Rattle.std.specs.Prelude.{ℕ, ◌+◌, ◌-◌, ◌==◌, ◌||◌, Bool, not, nat_le, List, [], ◌∷◌, length, if◌then◌else◌}
 use Rattle.std.specs.List.{list_any}
 use Rattle.ali_base.specs.Faults.{one_more}
 use Rattle.crash_disk.specs.DiskState.{DiskState}
-use Rattle.crash_disk.specs.CallRecord.{DiskCall, content, recorded_state}
+use Rattle.crash_disk.specs.CallRecord.{DiskCall, Looked, Wrote, Synced, content, recorded_state}
+use Rattle.crash_disk.specs.Recording.{cost}
 
 -- start: what it held at first, all of it synced. calls: its record, the newest first. capacity: the most bytes that it holds. room: the record's, in bytes, and left: what is left of it. failing: the calls that fail, counted from 1. made: those made. faults: those that failed
 pub record MemoryState : Type 0 where
@@ -41,10 +42,6 @@ state_of s = recorded_state s.start s.calls s.faults
 abbrev pub is_named : MemoryState → Bool
 is_named s = list_any (λ call. call == one_more s.made) s.failing
 
--- what a call with a piece of so many bytes takes of the record's room
-abbrev pub cost : ℕ → ℕ
-cost count = 32 + count
-
 -- the record has room for a call with a piece of so many bytes
 abbrev pub has_room : MemoryState → ℕ → Bool
 has_room s count = nat_le (cost count) s.left
@@ -65,3 +62,11 @@ after_call s count call failed = record s {
   made = one_more s.made;
   faults = if failed then one_more s.faults else s.faults;
 }
+
+-- a write, which was done or failed
+abbrev pub after_write : MemoryState → ℕ → List ℕ → Bool → MemoryState
+after_write s at piece failed = after_call s (length piece) (Wrote at piece (not failed)) failed
+
+-- a sync; one that failed changed nothing
+abbrev pub after_sync : MemoryState → Bool → MemoryState
+after_sync s failed = after_call s 0 (if failed then Looked else Synced) failed

@@ -1,9 +1,9 @@
 -- How the record of calls is kept: the pieces that were written stand one after the other.
-use Rattle.std.specs.Prelude.{ℕ, ◌+◌, ◌-◌, ◌≤◌, List, ◌∷◌, take, drop, map, reverse}
+use Rattle.std.specs.Prelude.{ℕ, ◌+◌, ◌-◌, ◌≤◌, Bool, true, false, List, ◌∷◌, take, drop, map, reverse}
 use Rattle.std.specs.List.{All}
 use Rattle.crash_disk.specs.CallRecord.{DiskCall, Looked, Wrote, Synced}
-use Rattle.crash_disk.specs.declared.record.Call.{Call}
-use Rattle.crash_disk.specs.declared.record.Call.TheVariants as Kept
+use Rattle.crash_disk.specs.declared.calls.Call.{Call}
+use Rattle.crash_disk.specs.declared.calls.Call.TheVariants as Kept
 
 -- calls: the newest first. room: the record's, in bytes. left: what is left of it
 pub record RecordState : Type 0 where
@@ -28,6 +28,12 @@ told pieces Kept.Synced = Synced
 -- all of them, of which the oldest stands first
 abbrev pub recorded : List ℕ → List Call → List DiskCall
 recorded pieces calls = reverse (map (told pieces) calls)
+
+-- whether a call synced
+abbrev pub is_sync : Call → Bool
+is_sync Kept.Looked = false
+is_sync (Kept.Wrote at from count done) = false
+is_sync Kept.Synced = true
 
 -- where the piece of a call ends
 abbrev pub piece_end : Call → ℕ

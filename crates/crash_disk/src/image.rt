@@ -1,6 +1,7 @@
 //! Bytes that are written over, in room that was taken for them.
-ghost use Rattle.std.specs.Prelude.{◌≡◌, ℕ, ◌+◌, ◌-◌, ◌≤◌, ◌++◌, length, take, drop, replicate, vec_capacity};
+ghost use Rattle.std.specs.Prelude.{◌≡◌, ℕ, ◌+◌, ◌-◌, ◌≤◌, ◌++◌, length, take, drop, replicate, vec_capacity, IsTrue};
 ghost use Rattle.crash_disk.specs.CrashOutcomes.{written};
+ghost use Rattle.crash_disk.specs.CrashImages.{filled_range, filled_write};
 
 /// Writes a piece at a place, behind zeros where the place is past the end.
 pub fn write_over(bytes: &mut Vec<u8>, at: usize, piece: &[u8])
@@ -40,4 +41,36 @@ fn put(bytes: &mut Vec<u8>, at: usize, piece: &[u8])
     ensures room { vec_capacity bytes.old ≤ vec_capacity bytes.new }
 {
     bytes[at..at + piece.len()].copy_from_slice(piece);
+}
+
+/// Fills what a write of `count` bytes at a place reached, and what it added where it was done.
+pub fn fill_over(bytes: &mut Vec<u8>, at: u64, count: usize, done: bool, byte: u8)
+    requires { IsTrue done → at + count ≤ vec_capacity bytes.old }
+    ensures filled { bytes.new.items ≡ filled_write byte at count done bytes.old.items }
+    ensures room { vec_capacity bytes.old ≤ vec_capacity bytes.new }
+{
+    if done {
+        lengthen(bytes, at as usize + count, byte);
+    }
+    fill_range(bytes, at, count, byte);
+}
+
+// Fills a range, as far as there are bytes.
+fn fill_range(bytes: &mut Vec<u8>, at: u64, count: usize, byte: u8)
+    ensures filled { bytes.new.items ≡ filled_range byte at count bytes.old.items }
+    ensures room { vec_capacity bytes.old ≤ vec_capacity bytes.new }
+{
+    fill_slice(bytes, at, count, byte);
+}
+
+// The same of a slice.
+fn fill_slice(bytes: &mut [u8], at: u64, count: usize, byte: u8)
+    ensures filled { bytes.new ≡ filled_range byte at count bytes.old }
+    ensures len { length bytes.new ≡ length bytes.old }
+{
+    if at < bytes.len() as u64 {
+        let from = at as usize;
+        let to = from + count.min(bytes.len() - from);
+        bytes[from..to].fill(byte);
+    }
 }

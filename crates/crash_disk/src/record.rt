@@ -1,29 +1,13 @@
 //! The record of a disk's calls.
-ghost use Rattle.std.specs.Prelude.{◌≡◌, ◌+◌, ◌≤◌, [], length, nat_le, IfOk};
+ghost use Rattle.std.specs.Prelude.{◌≡◌, ◌≤◌, [], length, nat_le, IfOk};
 ghost use Rattle.crash_disk.specs.CallRecord.{Looked, Wrote, Synced};
 ghost use Rattle.crash_disk.specs.Recording.{cost, with_call};
 
+use crate::calls::{Call, fill, replay, synced_count};
 use crate::image::append;
 use ali_base::NoMemory;
 use std::alloc::Global;
 use std::marker::Model;
-
-/// What a call did to the bytes.
-#[derive(Clone, Copy, Debug, PartialEq, Eq)]
-pub enum Call {
-    /// It changed nothing.
-    Looked,
-    /// It wrote so many bytes at a place, where it was done. They stand among the pieces, from
-    /// there on.
-    Wrote {
-        at: u64,
-        from: usize,
-        count: usize,
-        done: bool,
-    },
-    /// It synced.
-    Synced,
-}
 
 /// The calls in the order in which they came, and the pieces that were written, one after the other.
 #[derive(Drop)]
@@ -58,6 +42,13 @@ impl Record {
             room,
             left: room,
         })
+    }
+
+    /// How many bytes of room it has, with those that are taken.
+    pub fn room(&self) -> usize
+        ensures { result ≡ self.now.room }
+    {
+        self.room
     }
 
     /// Whether there is room for a call with a piece of so many bytes.
@@ -98,5 +89,31 @@ impl Record {
         });
         append(&mut self.pieces, piece);
         self.left -= 32 + piece.len();
+    }
+}
+
+impl Record {
+    ghost use Rattle.std.specs.Prelude.{◌≡◌, ◌≤◌, length, vec_capacity};
+    ghost use Rattle.crash_disk.specs.CallRecord.{content};
+    ghost use Rattle.crash_disk.specs.CrashImages.{up_to_sync, since_sync, filled};
+
+    /// Makes the writes up to the last sync again.
+    pub fn replay_synced(&self, bytes: &mut Vec<u8>)
+        requires { length (content bytes.old.items self.now.calls) ≤ vec_capacity bytes.old }
+        ensures bytes { bytes.new.items ≡ content bytes.old.items (up_to_sync self.now.calls) }
+        ensures room { vec_capacity bytes.old ≤ vec_capacity bytes.new }
+    {
+        let calls = self.calls.as_slice();
+        replay(&calls[..synced_count(calls)], &self.pieces, bytes);
+    }
+
+    /// Fills what the writes since the last sync reached and added.
+    pub fn fill_unsynced(&self, byte: u8, bytes: &mut Vec<u8>)
+        requires { length (filled byte bytes.old.items (since_sync self.now.calls)) ≤ vec_capacity bytes.old }
+        ensures bytes { bytes.new.items ≡ filled byte bytes.old.items (since_sync self.now.calls) }
+        ensures room { vec_capacity bytes.old ≤ vec_capacity bytes.new }
+    {
+        let calls = self.calls.as_slice();
+        fill(&calls[synced_count(calls)..], &self.pieces, byte, bytes);
     }
 }

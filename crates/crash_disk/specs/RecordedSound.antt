@@ -1,12 +1,15 @@
--- The law of disks, and the disk model, of a disk in memory.
-use Rattle.std.proofs.Common.{◌≡◌, ◌⊎◌, inl, inr, ℕ, zero, suc, ◌+◌, ◌-◌, ◌<◌, ◌≤◌, Bool, true, false, List, [], ◌∷◌, ◌++◌, length, take, drop, replicate, refl, sym, ◌∙◌, ap, subst, arith, length-append, length-drop}
-use Rattle.std.specs.Prelude.{slice_index, get_or}
+-- The law of disks, of a disk with a record of its calls.
+use Rattle.std.specs.Prelude.{◌≡◌, ℕ, zero, suc, ◌+◌, ◌-◌, ◌<◌, ◌≤◌, true, false, List, [], ◌∷◌, ◌++◌, length, take, drop, replicate, slice_index, get_or}
+use Rattle.std.proofs.Common.{inl, inr, refl, sym, ◌∙◌, ap, subst, arith, length-append, length-drop}
 use Rattle.std.proofs.lemmas.List.{get_or-drop, get_or-append_right}
 use Rattle.std.proofs.lemmas.Option.{same_Some}
-use Rattle.crash_disk.specs.DiskState.{DiskState, IsSound}
-use Rattle.crash_disk.specs.CrashOutcomes.{Torn, written, GoesOn, Stays, Writes}
+use Rattle.crash_disk.specs.DiskState.{IsSound}
+use Rattle.crash_disk.specs.CrashOutcomes.{Torn, written}
 use Rattle.crash_disk.specs.CallRecord.{DiskCall, Looked, Wrote, Synced, content, MayLeave, LeftSince, recorded_state}
-use Rattle.crash_disk.proofs.TornBytes.{untorn}
+
+-- nothing is torn
+pub untorn : (at n : ℕ) (f : List ℕ) → Torn at n f f
+untorn at n f = record { no_shorter = omega arith; below = λ i short low. refl; above = λ i short high. refl }
 
 -- a write tears no more than its range
 from_start : (n : ℕ) (bytes f : List ℕ) → length bytes ≤ n → Torn 0 n f (bytes ++ drop (length bytes) f)
@@ -31,7 +34,7 @@ at_next at bytes x f =
     λ i. x ∷ take at f ++ replicate (gap i) 0 ++ bytes ++ drop (size i) (x ∷ f)
 
 -- one byte more in front of the range
-torn_behind : (at n x : ℕ) (f g : List ℕ) → Torn at n f g → Torn (suc at) n (x ∷ f) (x ∷ g)
+pub torn_behind : (at n x : ℕ) (f g : List ℕ) → Torn at n f g → Torn (suc at) n (x ∷ f) (x ∷ g)
 torn_behind at n x f g torn = record { no_shorter = omega (arith, torn.no_shorter); below = before; above = past }
   where
     before : (i : ℕ) → i < length (x ∷ f) → i < suc at → slice_index (x ∷ g) i ≡ slice_index (x ∷ f) i
@@ -70,56 +73,4 @@ recorded_sound start calls faults = record {
   counts_now = λ t image le now. counts_now start calls t image now;
   only_now = λ image left. only_now start calls (length calls) image (omega arith) left;
   as_read = λ f told. subst (MayLeave start calls) (same_Some _ _ told) (as_read start calls);
-}
-
--- a call more
-module _ (start : List ℕ) (calls : List DiskCall) (call : DiskCall) (faults after : ℕ) where
-  abbrev old : DiskState
-  old = recorded_state start calls faults
-
-  abbrev new : DiskState
-  new = recorded_state start (call ∷ calls) after
-
-  goes_on : GoesOn old new
-  goes_on = record { later = omega arith; nothing_else = λ t image le left. split t image left; keeps = λ t image le left. inr (le, left) }
-    where
-      split : (t : ℕ) (image : List ℕ) → new.left_since t image → old.left_since t image ⊎ new.may_leave image
-      split t image (inl now) = inr now
-      split t image (inr before) = inl before.1
-
-pub no_call : (start : List ℕ) (calls : List DiskCall) (faults after : ℕ) → Stays (recorded_state start calls faults) (recorded_state start calls after)
-no_call start calls faults after = record {
-  on = record { later = omega arith; nothing_else = λ t image le left. inl left; keeps = λ t image le left. left };
-  content = refl;
-  crash = λ image left. left;
-}
-
-pub looked : (start : List ℕ) (calls : List DiskCall) (faults after : ℕ) → Stays (recorded_state start calls faults) (recorded_state start (Looked ∷ calls) after)
-looked start calls faults after = record { on = goes_on start calls Looked faults after; content = refl; crash = λ image left. left }
-
-pub synced : (start : List ℕ) (calls : List DiskCall) (faults after : ℕ) → Stays (recorded_state start calls faults) (recorded_state start (Synced ∷ calls) after)
-synced start calls faults after = record {
-  on = goes_on start calls Synced faults after;
-  content = refl;
-  crash = λ image left. subst (MayLeave start calls) (sym left) (as_read start calls);
-}
-
-pub wrote : (start : List ℕ) (calls : List DiskCall) (at : ℕ) (piece : List ℕ) (done : Bool) (faults after : ℕ)
-    → Writes at (length piece) (recorded_state start calls faults) (recorded_state start (Wrote at piece done ∷ calls) after)
-wrote start calls at piece done faults after = record {
-  on = goes_on start calls (Wrote at piece done) faults after;
-  content = (content start (Wrote at piece done ∷ calls), refl, torn done);
-  crash = λ image left. left;
-}
-  where
-    torn : (b : Bool) → Torn at (length piece) (content start calls) (content start (Wrote at piece b ∷ calls))
-    torn true = written_is_torn at (length piece) piece (content start calls) (omega arith)
-    torn false = untorn at (length piece) (content start calls)
-
--- a write that left no trace
-pub no_write : (start : List ℕ) (calls : List DiskCall) (at n faults after : ℕ) → Writes at n (recorded_state start calls faults) (recorded_state start calls after)
-no_write start calls at n faults after = record {
-  on = (no_call start calls faults after).on;
-  content = (content start calls, refl, untorn at n (content start calls));
-  crash = λ image left. (image, left, untorn at n image);
 }
