@@ -1,0 +1,47 @@
+-- Which bodies the bytes of a log stand for.
+use Rattle.std.specs.Prelude.{◌≡◌, ◌≢◌, ◌⊎◌, ℕ, suc, ◌+◌, ◌*◌, ◌≤◌, Bool, true, List, [], ◌∷◌, ◌++◌, length}
+use Rattle.std.specs.List.{flat_map}
+use Rattle.commit_log.specs.declared.blocks.TheConstants.{COMMITTED}
+
+-- where frame k stands, where bodies have n bytes
+abbrev pub frame_place : ℕ → ℕ → ℕ
+frame_place n k = (n + 1) * k
+
+-- these bodies, each behind a byte that commits it
+abbrev pub committed_frames : List (List ℕ) → List ℕ
+committed_frames bodies = flat_map (λ (body : List ℕ). COMMITTED ∷ body) bodies
+
+-- what stands before the commit byte of the next frame: the head, and the frames before that one
+abbrev pub log_front : List ℕ → List (List ℕ) → List ℕ
+log_front head bodies = head ++ committed_frames bodies
+
+-- Each is the body of its frame, of n bytes. The first of them is that of frame k.
+abbrev pub AreBodies : (ℕ → List ℕ → Bool) → ℕ → ℕ → List (List ℕ) → Type 0
+AreBodies is_body n k [] = Unit {0}
+AreBodies is_body n k (body ∷ bodies) = (length body ≡ n) × (is_body k body ≡ true) × AreBodies is_body n (suc k) bodies
+
+-- The image stands for these bodies: the head, the frames that are committed, a byte that commits nothing, and then anything.
+pub record StandsFor (is_body : ℕ → List ℕ → Bool) (head : List ℕ) (bodies : List (List ℕ)) (image : List ℕ) : Type 0 where
+  pub next : ℕ
+  pub rest : List ℕ
+  pub parts : image ≡ log_front head bodies ++ next ∷ rest
+  pub uncommitted : next ≢ COMMITTED
+  pub lawful : AreBodies is_body (length head) 1 bodies
+
+-- The image begins otherwise than with the head and a commit byte.
+abbrev pub IsForeign : List ℕ → List ℕ → Type 0
+IsForeign head image = (next : ℕ) (rest : List ℕ) → image ≢ head ++ next ∷ rest
+
+-- no body of frame k, of n bytes, and the commit byte behind it stand at the front of these bytes
+abbrev pub NoFrame : (ℕ → List ℕ → Bool) → ℕ → ℕ → List ℕ → Type 0
+NoFrame is_body n k bytes = (body : List ℕ) (next : ℕ) (more : List ℕ) → length body ≡ n → is_body k body ≡ true → bytes ≢ body ++ next ∷ more
+
+-- Frame k is committed, and is not there as a whole, or is past the limit.
+pub record IsDamaged (is_body : ℕ → List ℕ → Bool) (head : List ℕ) (limit k : ℕ) (image : List ℕ) : Type 0 where
+  pub bodies : List (List ℕ)
+  pub rest : List ℕ
+  pub parts : image ≡ log_front head bodies ++ COMMITTED ∷ rest
+  pub lawful : AreBodies is_body (length head) 1 bodies
+  pub number : k ≡ length bodies + 1
+  pub within : length bodies ≤ limit
+  pub broken : (length bodies ≡ limit) ⊎ NoFrame is_body (length head) k rest

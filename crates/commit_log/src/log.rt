@@ -1,0 +1,200 @@
+//! The log.
+ghost use Rattle.std.specs.Prelude.{◌≡◌, ◌≤◌, ◌<◌, ◌+◌, ◌-◌, ◌^◌, [], List, ℕ, length, take, true, is_ok, OnOk, MatchResult};
+ghost use Rattle.crash_disk.specs.Moments.{EachMoment};
+ghost use Rattle.commit_log.specs.LogState.{StandsForEither, with_body, body_of};
+
+use crate::blocks::{UNCOMMITTED, place_of_commit, place_of_frame};
+use crate::body_reader::BodyReader;
+use crate::durable::write_durably;
+use crate::opening::{OpenFault, read_log};
+use crate::writing::write_frame;
+use crash_disk::{Disk, Failed};
+use std::marker::PhantomData;
+
+/// Why an append was refused.
+#[derive(Clone, Copy, Debug, PartialEq, Eq)]
+pub enum AppendFault {
+    /// The log has as many frames as it may, which is the limit.
+    Full(u32),
+    /// The disk failed. The log is opened again.
+    DiskFault,
+}
+
+/// Why a body was not read.
+#[derive(Clone, Copy, Debug, PartialEq, Eq)]
+pub enum ReadFault {
+    /// The disk failed.
+    DiskFault,
+    /// The bytes on the disk are no longer those of this frame.
+    Changed(u32),
+}
+
+/// The frames on a disk. What their bodies are is told by `R`.
+#[derive(Drop)]
+pub struct Log<D, R> {
+    disk: D,
+    body_len: u32,
+    limit: u32,
+    count: u32,
+    usable: bool,
+    bodies: PhantomData<R>,
+    ghost within: { count ≤ limit },
+    ghost short: { body_len < 2 ^ 32 },
+    ghost few: { limit + 1 < 2 ^ 32 },
+}
+
+impl<D: Disk + Drop, R: BodyReader> Log<D, R> {
+    ghost use Rattle.commit_log.specs.OpenLog.{Represents, IsOpened, IsRefused, IsUntouched, IsFixed, AppendAnswers, CutAnswers, ReadAnswers, count_of, body_len_of, limit_of, disk_of, is_usable};
+
+    /// Opens the log on a disk that begins with the head and a commit byte, of at most `limit`
+    /// frames. It reads through the buffer, and the reader reads each body. It changes no byte.
+    pub fn open(
+        disk: D,
+        head: &[u8],
+        limit: u32,
+        buffer: &mut [u8],
+        reader: &mut R,
+    ) -> Result<Log<D, R>, (D, OpenFault)>
+        requires head { length head.now < 2 ^ 32 }
+        requires limit { limit + 1 < 2 ^ 32 }
+        requires buffer { length head.now < length buffer.old }
+        requires reader { (limit ≤ R.room reader.old) × R.holds reader.old [] }
+        ensures { MatchResult result (IsOpened R.is_body D.state (R.holds reader.new) head.now limit disk) (λ e. IsRefused R.is_body D.state head.now limit disk e.0 e.1) }
+    {
+        let mut disk = disk;
+        match read_log(&mut disk, head, limit, buffer, reader) {
+            Ok(count) => Ok(Log {
+                disk,
+                body_len: head.len() as u32,
+                limit,
+                count,
+                usable: true,
+                bodies: PhantomData,
+            }),
+            Err(fault) => Err((disk, fault)),
+        }
+    }
+
+    /// Opens the log again, as it is. Where it is refused, the log is not usable.
+    pub fn reopen(
+        &mut self,
+        head: &[u8],
+        buffer: &mut [u8],
+        reader: &mut R,
+    ) -> Result<(), OpenFault>
+        requires head { length head.now ≡ body_len_of self.old }
+        requires buffer { length head.now < length buffer.old }
+        requires reader { (limit_of self.old ≤ R.room reader.old) × R.holds reader.old [] }
+        ensures answer { MatchResult result (λ _. IsOpened R.is_body D.state (R.holds reader.new) head.now (limit_of self.old) (disk_of self.old) self.new) (IsRefused R.is_body D.state head.now (limit_of self.old) (disk_of self.old) (disk_of self.new)) }
+        ensures usable { is_usable self.new ≡ is_ok result }
+        ensures fixed { IsFixed D.state self.old self.new }
+    {
+        match read_log(&mut self.disk, head, self.limit, buffer, reader) {
+            Ok(count) => {
+                self.count = count;
+                self.usable = true;
+                Ok(())
+            }
+            Err(fault) => {
+                self.usable = false;
+                Err(fault)
+            }
+        }
+    }
+
+    /// Gives the disk back.
+    pub fn close(self) -> D
+        ensures { result ≡ disk_of self }
+    {
+        self.disk
+    }
+
+    /// How many frames it has.
+    pub fn len(&self) -> u32
+        ensures { result ≡ count_of self.now }
+    {
+        self.count
+    }
+
+    /// False once an append, a cut or an opening was refused by the disk, until the log is opened again.
+    pub fn usable(&self) -> bool
+        ensures { result ≡ is_usable self.now }
+    {
+        self.usable
+    }
+
+    /// Reads the body of a frame.
+    pub fn read(&mut self, k: u32, body: &mut [u8]) -> Result<(), ReadFault>
+        requires usable { is_usable self.old ≡ true }
+        requires number { (1 ≤ k) × (k ≤ count_of self.old) }
+        requires room { length body.old ≡ body_len_of self.old }
+        ensures answer { ReadAnswers R.is_body D.state self.old self.new k body.new result }
+        ensures untouched { IsUntouched D.state self.old self.new }
+    {
+        let place = place_of_frame(self.body_len, k);
+        match self.disk.read_at(place, body) {
+            Ok(count) => {
+                if count < body.len() {
+                    return Err(ReadFault::Changed(k));
+                }
+                Ok(())
+            }
+            Err(Failed) => Err(ReadFault::DiskFault),
+        }
+    }
+
+    /// Adds a frame. The block is its body, and room for the commit byte behind it. From `Ok` on,
+    /// each crash leaves a disk that has it.
+    pub fn append(&mut self, block: &mut [u8]) -> Result<u32, AppendFault>
+        requires usable { is_usable self.old ≡ true }
+        requires length { length block.old ≡ body_len_of self.old + 1 }
+        requires lawful { R.is_body (count_of self.old + 1) (body_of block.old) ≡ true }
+        ensures stored { (head : List ℕ) (bodies : List (List ℕ)) → Represents R.is_body D.state head bodies self.old
+            → OnOk result (Represents R.is_body D.state head (with_body bodies (body_of block.old)) self.new) }
+        // A crash at any moment leaves the bodies from before, with the new one or without.
+        ensures moments { (head : List ℕ) (bodies : List (List ℕ)) → Represents R.is_body D.state head bodies self.old
+            → EachMoment (D.state (disk_of self.old)) (D.state (disk_of self.new)) (StandsForEither R.is_body head bodies (with_body bodies (body_of block.old))) }
+        ensures answer { AppendAnswers D.state self.old self.new result }
+        ensures fixed { IsFixed D.state self.old self.new }
+    {
+        if self.count >= self.limit {
+            return Err(AppendFault::Full(self.limit));
+        }
+        let number = self.count + 1;
+        match write_frame::<D, R>(&mut self.disk, self.body_len, number, block) {
+            Ok(()) => {
+                self.count = number;
+                Ok(number)
+            }
+            Err(Failed) => {
+                self.usable = false;
+                Err(AppendFault::DiskFault)
+            }
+        }
+    }
+
+    /// Takes back the frames from one on. From `Ok` on, each crash leaves a disk without them.
+    pub fn cut_from(&mut self, k: u32) -> Result<(), Failed>
+        requires usable { is_usable self.old ≡ true }
+        requires number { (1 ≤ k) × (k ≤ count_of self.old) }
+        ensures cut { (head : List ℕ) (bodies : List (List ℕ)) → Represents R.is_body D.state head bodies self.old
+            → OnOk result (Represents R.is_body D.state head (take (k - 1) bodies) self.new) }
+        // A crash at any moment leaves the bodies from before, with those from k on or without.
+        ensures moments { (head : List ℕ) (bodies : List (List ℕ)) → Represents R.is_body D.state head bodies self.old
+            → EachMoment (D.state (disk_of self.old)) (D.state (disk_of self.new)) (StandsForEither R.is_body head bodies (take (k - 1) bodies)) }
+        ensures answer { CutAnswers D.state self.old self.new k result }
+        ensures fixed { IsFixed D.state self.old self.new }
+    {
+        let place = place_of_commit(self.body_len, k);
+        match write_durably(&mut self.disk, place, &[UNCOMMITTED]) {
+            Ok(()) => {
+                self.count = k - 1;
+                Ok(())
+            }
+            Err(Failed) => {
+                self.usable = false;
+                Err(Failed)
+            }
+        }
+    }
+}

@@ -1,0 +1,125 @@
+//! Opening: the bodies are read, up to the first frame that is not committed.
+ghost use Rattle.std.specs.Prelude.{◌≡◌, ◌≤◌, ◌<◌, ◌^◌, ◌+◌, ◌-◌, [], ℕ, length, MatchResult, MatchOption, IfOk, IsTrue, ◌↔◌};
+ghost use Rattle.crash_disk.specs.CrashOutcomes.{Stays, HasCause};
+ghost use Rattle.commit_log.specs.LogImage.{frame_place};
+ghost use Rattle.commit_log.specs.Opening.{Found, Refused, AllRead, Stopped, BeginsOtherwise, BeginsWith};
+ghost use Rattle.commit_log.specs.Pieces.{Buffers};
+
+use crate::blocks::COMMITTED;
+use crate::body_reader::BodyReader;
+use crate::pieces::{Behind, Piece, read_frame, with_block};
+use crash_disk::{Disk, Failed};
+
+/// Why a log was not opened.
+#[derive(Clone, Copy, Debug, PartialEq, Eq)]
+pub enum OpenFault {
+    /// The disk failed.
+    DiskFault,
+    /// The disk begins otherwise than with the first block.
+    Foreign,
+    /// The frame of this number is committed, and no whole frame of that number is there, or it is
+    /// past the limit.
+    Damaged(u32),
+}
+
+/// Syncs, and reads the bodies of a log through a buffer. It changes no byte of the disk.
+pub fn read_log<D: Disk, R: BodyReader>(
+    disk: &mut D,
+    head: &[u8],
+    limit: u32,
+    buffer: &mut [u8],
+    reader: &mut R,
+) -> Result<u32, OpenFault>
+    requires head { length head.now < 2 ^ 32 }
+    requires limit { limit + 1 < 2 ^ 32 }
+    requires buffer { length head.now < length buffer.old }
+    requires reader { (limit ≤ R.room reader.old) × R.holds reader.old [] }
+    ensures read { MatchResult result (λ count. Found R.is_body (R.holds reader.new) head.now count (D.state disk.old) (D.state disk.new)) (Refused R.is_body head.now limit (D.state disk.old) (D.state disk.new)) }
+    ensures within { IfOk result (λ count. count ≤ limit) }
+    ensures stays { Stays (D.state disk.old) (D.state disk.new) }
+    ensures faults { (D.state disk.old).faults ≤ (D.state disk.new).faults }
+{
+    match disk.sync() {
+        Ok(()) => {}
+        Err(Failed) => return Err(OpenFault::DiskFault),
+    }
+    match first_commit(disk, head, buffer) {
+        Ok(Some(behind)) => read_frames(disk, head.len() as u32, limit, buffer, behind, reader),
+        Ok(None) => Err(OpenFault::Foreign),
+        Err(Failed) => Err(OpenFault::DiskFault),
+    }
+}
+
+// Reads the first block. None where the disk begins otherwise than with the head.
+fn first_commit<D: Disk>(
+    disk: &mut D,
+    head: &[u8],
+    buffer: &mut [u8],
+) -> Result<Option<Behind>, Failed>
+    requires buffer { length head.now < length buffer.old }
+    ensures buffers { IfOk result (λ found. MatchOption found (Unit {0}) (λ b. Buffers (D.state disk.new) (frame_place (length head.now) 1) b.piece buffer.new)) }
+    ensures first { IfOk result (λ found. MatchOption found (BeginsOtherwise head.now (D.state disk.old)) (λ b. BeginsWith head.now b.next (D.state disk.old))) }
+    ensures stays { Stays (D.state disk.old) (D.state disk.new) }
+    ensures cause { HasCause (D.state disk.old) (D.state disk.new) result }
+{
+    let piece = with_block(disk, buffer, Piece { at: 0, end: 0 }, 0, head.len() + 1)?;
+    if piece.len() <= head.len() {
+        return Ok(None);
+    }
+    let end = piece.at + head.len();
+    if !is_same(&buffer[piece.at..end], head) {
+        return Ok(None);
+    }
+    Ok(Some(Behind {
+        piece: Piece {
+            at: end + 1,
+            end: piece.end,
+        },
+        next: buffer[end],
+    }))
+}
+
+fn is_same(a: &[u8], b: &[u8]) -> bool
+    ensures { IsTrue result ↔ (a.now ≡ b.now) }
+{
+    a == b
+}
+
+// Reads the frames behind the first block.
+fn read_frames<D: Disk, R: BodyReader>(
+    disk: &mut D,
+    body_len: u32,
+    limit: u32,
+    buffer: &mut [u8],
+    first: Behind,
+    reader: &mut R,
+) -> Result<u32, OpenFault>
+    requires limit { limit + 1 < 2 ^ 32 }
+    requires buffer { body_len < length buffer.old }
+    requires buffers { Buffers (D.state disk.old) (frame_place body_len 1) first.piece buffer.old }
+    requires reader { (limit ≤ R.room reader.old) × R.holds reader.old [] }
+    ensures read { MatchResult result (λ count. AllRead R.is_body (R.holds reader.new) body_len first.next count (D.state disk.old)) (Stopped R.is_body body_len limit first.next (D.state disk.old) (D.state disk.new)) }
+    ensures within { IfOk result (λ count. count ≤ limit) }
+    ensures stays { Stays (D.state disk.old) (D.state disk.new) }
+    ensures faults { (D.state disk.old).faults ≤ (D.state disk.new).faults }
+{
+    let mut piece = first.piece;
+    let mut next = first.next;
+    let mut count = 0;
+    while next == COMMITTED {
+        let number = count + 1;
+        if number > limit {
+            return Err(OpenFault::Damaged(number));
+        }
+        match read_frame(disk, buffer, piece, body_len, number, reader) {
+            Ok(Some(behind)) => {
+                piece = behind.piece;
+                next = behind.next;
+                count = number;
+            }
+            Ok(None) => return Err(OpenFault::Damaged(number)),
+            Err(Failed) => return Err(OpenFault::DiskFault),
+        }
+    }
+    Ok(count)
+}
