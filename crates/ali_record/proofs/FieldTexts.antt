@@ -10,6 +10,7 @@ use Rattle.std.proofs.lemmas.Bool.Decides.{nat_tests}
 use Rattle.std.proofs.lemmas.Str.Parse.{IsNumeralModel, numerals_by_value, tells_all_ascii_digits}
 use Rattle.std.proofs.lemmas.Fmt.{digits_decimal, digits_value-decimal, decimal_nonempty, length-decimal-le}
 use Rattle.std.proofs.lemmas.List.Folds.{list_all-append}
+use Rattle.std.proofs.lemmas.Bool.{and_parts}
 use Rattle.ali_base.specs.Columns.{is_space, is_empty, is_printable, trimmed, front_trimmed}
 use Rattle.ali_base.specs.Digits.{digits_number}
 use Rattle.ali_base.specs.HouseNumber.{at_most, house_number, house_of, house_text}
@@ -29,10 +30,6 @@ no_space x h = grind (arith, nat_tests)
 
 printed : (x : ℕ) → is_ascii_digit x ≡ true → is_printable x ≡ true
 printed x h = grind (arith, nat_tests)
-
-and_parts : (a b : Bool) → (a && b) ≡ true → (a ≡ true) × (b ≡ true)
-and_parts true b h = (refl, h)
-and_parts false b h = cc
 
 digits_spaceless : (xs : List ℕ) → all_ascii_digits xs ≡ true → Spaceless xs
 digits_spaceless [] h = tt

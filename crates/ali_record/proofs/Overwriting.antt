@@ -5,6 +5,7 @@ use Rattle.std.proofs.lemmas.Slice.{drop-append-drop}
 use Rattle.std.proofs.lemmas.List.Folds.{list_all-append}
 use Rattle.std.proofs.lemmas.Grind.{common_steps}
 use Rattle.std.specs.List.{list_all}
+use Rattle.std.proofs.lemmas.Bool.{and_parts}
 
 -- the bytes with this text from p to q
 abbrev pub over : List ℕ → ℕ → ℕ → List ℕ → List ℕ
@@ -45,10 +46,6 @@ byte_before bytes text p q k len inside before = grind (arith, common_steps, len
 
 pub byte_after : (bytes text : List ℕ) (p q k : ℕ) → p + length text ≡ q → q ≤ length bytes → q ≤ k → k < length bytes → get_or (over bytes p q text) k 0 ≡ get_or bytes k 0
 byte_after bytes text p q k len inside after within = grind (arith, common_steps, length-front bytes text p q len inside)
-
-and_parts : (a b : Bool) → (a && b) ≡ true → (a ≡ true) × (b ≡ true)
-and_parts true b h = (refl, h)
-and_parts false b h = cc
 
 and_both : (a b : Bool) → a ≡ true → b ≡ true → (a && b) ≡ true
 and_both true b h k = k

@@ -152,17 +152,17 @@ whole_by Bare n h w = sized_bare n h (or_cases (n % 512 == 0) ((n + 0) % 512 == 
 whole_by Lf n h w = sized_lf n h (or_cases (n % 513 == 0) ((n + 1) % 513 == 0) w)
 whole_by CrLf n h w = sized_crlf n h (or_cases (n % 514 == 0) ((n + 2) % 514 == 0) w)
 
-and_parts : (a b : Bool) (f : Option FrameFault) (fault : FrameFault) → (f ≡ cond (a && b) None (Some fault)) → f ≡ None → (a ≡ true) × (b ≡ true)
-and_parts true true f fault e h = (refl, refl)
-and_parts true false f fault e h = absurd (cc)
-and_parts false b f fault e h = absurd (cc)
+passed_parts : (a b : Bool) (f : Option FrameFault) (fault : FrameFault) → (f ≡ cond (a && b) None (Some fault)) → f ≡ None → (a ≡ true) × (b ≡ true)
+passed_parts true true f fault e h = (refl, refl)
+passed_parts true false f fault e h = absurd (cc)
+passed_parts false b f fault e h = absurd (cc)
 
 pub whole : (bytes : List ℕ) → length_fault bytes ≡ None → (1_024 ≤ length bytes) × Whole (separator_of bytes) (length bytes) (record_count (separator_of bytes) (length bytes))
 unfolding length_fault
 whole bytes h =
     let s = separator_of bytes in
     let n = length bytes in
-    let both = and_parts (nat_le 1_024 n) (is_whole s n) (length_fault bytes) (faults.Length n) refl h in
+    let both = passed_parts (nat_le 1_024 n) (is_whole s n) (length_fault bytes) (faults.Length n) refl h in
     let long : 1_024 ≤ n = grind (arith, nat_tests, both.0) in
     (long, whole_by s n long both.1)
 

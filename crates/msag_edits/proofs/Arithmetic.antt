@@ -3,11 +3,12 @@ use Rattle.std.proofs.Common.{◌≡◌, ◌≢◌, ℕ, ◌+◌, ◌-◌, ◌<�
 use Rattle.std.specs.Bool.{Decides}
 use Rattle.std.proofs.lemmas.Bool.Decides.{nat_tests}
 use Rattle.msag_ranges.specs.StreetGuide.{has_parity}
+use Rattle.msag_ranges.specs.HeldNumbers.{greatest_to, least_from}
 use Rattle.ali_base.specs.declared.parity.Parity.{Parity}
 use Rattle.ali_base.specs.declared.parity.Parity.TheVariants.{Odd, Even, Both}
 use Rattle.ali_base.specs.declared.house.TheConstants.{HIGHEST_HOUSE}
 use Rattle.number_table.specs.HouseArithmetic.{added, stays_house}
-use Rattle.msag_edits.specs.HouseArithmetic.{is_odd, is_one_parity, last_to, first_above}
+use Rattle.msag_edits.specs.HouseArithmetic.{is_odd, is_one_parity}
 
 -- the number has the parity, as a fact
 abbrev pub Has : Parity → ℕ → Type 0
@@ -44,9 +45,9 @@ differ : (p : Parity) (m n : ℕ) → has_parity p m ≡ true → has_parity p n
 differ p m n h k e = not_both (has_parity p n) (subst (λ (x : ℕ). has_parity p x ≡ true) e h) k
 
 -- the greatest number up to `at` that has the parity, where one from low on has it
-pub last_to-is : (p : Parity) (low at : ℕ) → has_parity p low ≡ true → low ≤ at
-    → (low ≤ last_to p at) × (last_to p at ≤ at) × (at ≤ last_to p at + 1) × (has_parity p (last_to p at) ≡ true)
-last_to-is p low at h le =
+pub greatest_to-is : (p : Parity) (low at : ℕ) → has_parity p low ≡ true → low ≤ at
+    → (low ≤ greatest_to p at) × (greatest_to p at ≤ at) × (at ≤ greatest_to p at + 1) × (has_parity p (greatest_to p at) ≡ true)
+greatest_to-is p low at h le =
     choice (has_parity p at) at (at - 1) (λ n. (low ≤ n) × (n ≤ at) × (at ≤ n + 1) × (has_parity p n ≡ true))
     (λ t. (le, omega arith, omega arith, t))
     (λ f.
@@ -55,21 +56,20 @@ last_to-is p low at h le =
     (omega arith, omega arith, omega arith, before p at f (omega arith)))
 
 -- the least number above `at` that has the parity, where one up to high has it
-pub first_above-is : (p : Parity) (high at : ℕ) → has_parity p high ≡ true → at < high
-    → (at < first_above p at) × (first_above p at ≤ high) × (first_above p at ≤ at + 2) × (has_parity p (first_above p at) ≡ true)
-first_above-is p high at h lt =
-    choice (has_parity p (at + 1)) (at + 1) (at + 2) (λ n. (at < n) × (n ≤ high) × (n ≤ at + 2) × (has_parity p n ≡ true))
+pub least_above-is : (p : Parity) (high at : ℕ) → has_parity p high ≡ true → at < high
+    → (at < least_from p (at + 1)) × (least_from p (at + 1) ≤ high) × (least_from p (at + 1) ≤ at + 2) × (has_parity p (least_from p (at + 1)) ≡ true)
+least_above-is p high at h lt =
+    choice (has_parity p (at + 1)) (at + 1) (at + 1 + 1) (λ n. (at < n) × (n ≤ high) × (n ≤ at + 2) × (has_parity p n ≡ true))
     (λ t. (omega arith, omega arith, omega arith, t))
     (λ f.
     let ne : high ≢ at + 1 = differ p high (at + 1) h f in
-    let next : has_parity p (at + 2) ≡ true = subst (λ (k : ℕ). has_parity p k ≡ true) (let e : at + 1 + 1 ≡ at + 2 = omega arith in e) (one_or_next p (at + 1) f) in
-    (omega arith, omega arith, omega arith, next))
+    (omega arith, omega arith, omega arith, one_or_next p (at + 1) f))
 
 -- no number with the parity is lost between the two parts
-pub none_between : (p : Parity) (at n : ℕ) → has_parity p n ≡ true → (n ≤ at → n ≤ last_to p at) × (at < n → first_above p at ≤ n)
+pub none_between : (p : Parity) (at n : ℕ) → has_parity p n ≡ true → (n ≤ at → n ≤ greatest_to p at) × (at < n → least_from p (at + 1) ≤ n)
 none_between p at n h = (
   λ le. choice (has_parity p at) at (at - 1) (λ k. n ≤ k) (λ t. le) (λ f. let ne : n ≢ at = differ p n at h f in omega arith),
-  λ lt. choice (has_parity p (at + 1)) (at + 1) (at + 2) (λ k. k ≤ n) (λ t. omega arith) (λ f. let ne : n ≢ at + 1 = differ p n (at + 1) h f in omega arith),
+  λ lt. choice (has_parity p (at + 1)) (at + 1) (at + 1 + 1) (λ k. k ≤ n) (λ t. omega arith) (λ f. let ne : n ≢ at + 1 = differ p n (at + 1) h f in omega arith),
 )
 
 -- a lawful difference keeps each parity

@@ -1,22 +1,24 @@
 -- An edit that is done leaves a sound guide, whose emergency service numbers have five digits.
 use Rattle.std.proofs.Common.{◌≡◌, ℕ, ◌+◌, ◌<◌, ◌≤◌, ◌==◌, ◌&&◌, nat_le, Bool, true, false, cond, not, ℤ, List, length, get_or, refl, subst, arith, Option, Some, None, if◌then◌else◌}
 use Rattle.std.specs.List.{All, position}
-use Rattle.std.proofs.lemmas.Bool.{not-false}
+use Rattle.std.proofs.lemmas.Bool.{not-false, and_parts}
 use Rattle.std.proofs.lemmas.List.{length-map}
 use Rattle.std.proofs.lemmas.Bool.Decides.{nat_tests}
 use Rattle.std.proofs.lemmas.List.Elements.{All-contains, All-filter, All-map, All-push}
 use Rattle.msag_ranges.specs.StreetGuide.{StreetGuide, HasSoundEnds, IsSoundGuide, MayStand, has_parity, least_overlap, range_of, new_range, moved, with_moved}
+use Rattle.msag_ranges.specs.HeldNumbers.{greatest_to}
 use Rattle.ali_base.specs.declared.parity.Parity.{Parity}
+use Rattle.ali_base.specs.declared.house.TheConstants.{HIGHEST_HOUSE}
+use Rattle.ali_base.specs.declared.esn.TheConstants.{HIGHEST_ESN}
 use Rattle.msag_ranges.specs.declared.range.Range.{Range}
 use Rattle.ali_base.specs.declared.street_key.StreetKey.{StreetKey}
 use Rattle.msag_edits.specs.declared.edit_verdict.EditVerdict.{EditVerdict}
 use Rattle.msag_edits.specs.EditRules.{EditAct, are_sound_ends, is_esn, has_empty_part, shifted, refused, done, new_id, unless_overlap, for_range, add_verdict, split_verdict, renumber_verdict, set_esn_verdict, add_act, retire_act, split_act, renumber_act, set_esn_act, upper_part}
 use Rattle.msag_edits.specs.Edits.{edit_verdict, edit_act}
-use Rattle.msag_edits.specs.HouseArithmetic.{is_odd, is_one_parity, last_to}
-use Rattle.msag_edits.proofs.Arithmetic.{choice, last_to-is, added-limit}
+use Rattle.msag_edits.specs.HouseArithmetic.{is_odd, is_one_parity}
+use Rattle.msag_edits.proofs.Arithmetic.{choice, greatest_to-is, added-limit}
 use Rattle.msag_edits.proofs.Ranges.{live, sound_ends, both_parts, set-asks, may_stand-esn, may_stand-lower, may_stand-shifted, may_stand-upper}
 use Rattle.msag_ranges.proofs.GuideKept.{find-from_place, find-no_place, sound-add, sound-moved, sound-remove}
-use Rattle.msag_ranges.proofs.Overlapping.{both}
 use Rattle.number_table.specs.HouseArithmetic.{added, stays_house}
 use Rattle.number_table.specs.HeldRows.{count_held}
 use Rattle.number_table.specs.NumberTable.{NumberTable}
@@ -26,7 +28,7 @@ use Rattle.office_entry.specs.Edits.{IsEdit}
 
 -- each range has an emergency service number of five digits at most
 abbrev pub HaveFiveDigits : List Range → Type 0
-HaveFiveDigits ranges = All (λ r. r.esn ≤ 99_999) ranges
+HaveFiveDigits ranges = All (λ r. r.esn ≤ HIGHEST_ESN) ranges
 
 -- ---- what code 0 says
 
@@ -49,13 +51,13 @@ free (Some id) next h = absurd (omega arith)
 room : (g : StreetGuide) → (new_id g).code ≡ 0 → length g.ranges + 1 ≤ g.limit
 room g h = let below = (not_refused (nat_le g.limit (length g.ranges)) 509 (done g.next) (omega arith) h).0 in grind (arith, nat_tests)
 
-small_esn : (esn : ℕ) → is_esn esn ≡ true → esn ≤ 99_999
-small_esn esn h = let w = both (nat_le 1 esn) (nat_le esn 99_999) h in grind (arith, nat_tests)
+small_esn : (esn : ℕ) → is_esn esn ≡ true → esn ≤ HIGHEST_ESN
+small_esn esn h = let w = and_parts (nat_le 1 esn) (nat_le esn HIGHEST_ESN) h in grind (arith, nat_tests)
 
 sound_new : (id : ℕ) (key : StreetKey) (low high : ℕ) (parity : Parity) (esn : ℕ) → are_sound_ends parity low high ≡ true → HasSoundEnds (new_range id key low high parity esn)
 sound_new id key low high parity esn h =
-    let w = both (nat_le low high && has_parity parity low) (has_parity parity high) h in
-    let v = both (nat_le low high) (has_parity parity low) w.0 in
+    let w = and_parts (nat_le low high && has_parity parity low) (has_parity parity high) h in
+    let v = and_parts (nat_le low high) (has_parity parity low) w.0 in
     record { ordered = grind (arith, nat_tests); low_parity = v.1; high_parity = w.1 }
 
 -- ---- the range of an id with other ends
@@ -67,18 +69,18 @@ place_found xs id r found = by_place (position (λ s. s.id == id) xs) refl
     by_place None e = absurd (let none = find-no_place (λ s. s.id == id) xs e in cc)
     by_place (Some at) e = (at, refl, (let same = find-from_place (λ s. s.id == id) xs at r e in cc))
 
-moved_kept : (xs : List Range) (next limit id low high esn : ℕ) (r : Range) → IsSoundGuide xs next limit → range_of xs id ≡ Some r → MayStand xs (moved r low high esn) (Some id) → high ≤ 999_999
+moved_kept : (xs : List Range) (next limit id low high esn : ℕ) (r : Range) → IsSoundGuide xs next limit → range_of xs id ≡ Some r → MayStand xs (moved r low high esn) (Some id) → high ≤ HIGHEST_HOUSE
     → IsSoundGuide (with_moved xs id low high esn) next limit
 moved_kept xs next limit id low high esn r g found stands small =
     let place = place_found xs id r found in
     let kept = sound-moved xs next limit id low high esn place.0 r g place.1 place.2 small (set-asks xs id low high esn r found stands) in
     subst (λ ys. IsSoundGuide ys next limit) kept.1 kept.0
 
-moved_digits : (xs : List Range) (id low high esn : ℕ) → esn ≤ 99_999 → HaveFiveDigits xs → HaveFiveDigits (with_moved xs id low high esn)
+moved_digits : (xs : List Range) (id low high esn : ℕ) → esn ≤ HIGHEST_ESN → HaveFiveDigits xs → HaveFiveDigits (with_moved xs id low high esn)
 moved_digits xs id low high esn small old =
-    All-map (λ s. s.esn ≤ 99_999) (λ s. cond (s.id == id) (moved s low high esn) s) xs (λ k d inside.
+    All-map (λ s. s.esn ≤ HIGHEST_ESN) (λ s. cond (s.id == id) (moved s low high esn) s) xs (λ k d inside.
     let r : Range = get_or xs k d in
-    choice (r.id == id) (moved r low high esn) r (λ s. s.esn ≤ 99_999) (λ _. small) (λ _. old k d inside))
+    choice (r.id == id) (moved r low high esn) r (λ s. s.esn ≤ HIGHEST_ESN) (λ _. small) (λ _. old k d inside))
 
 -- ---- each edit
 
@@ -86,7 +88,7 @@ moved_digits xs id low high esn small old =
 abbrev pub Keeps : StreetGuide → EditAct → Type 0
 Keeps g a = IsSoundGuide a.ranges a.next g.limit × (HaveFiveDigits g.ranges → HaveFiveDigits a.ranges)
 
-add_keeps : (g : StreetGuide) (key : StreetKey) (low high : ℕ) (parity : Parity) (esn : ℕ) → IsSoundGuide g.ranges g.next g.limit → high ≤ 999_999
+add_keeps : (g : StreetGuide) (key : StreetKey) (low high : ℕ) (parity : Parity) (esn : ℕ) → IsSoundGuide g.ranges g.next g.limit → high ≤ HIGHEST_HOUSE
     → (add_verdict g key low high parity esn).code ≡ 0 → Keeps g (add_act g key low high parity esn)
 add_keeps g key low high parity esn guide small clear =
     let new = new_range g.next key low high parity esn in
@@ -95,15 +97,15 @@ add_keeps g key low high parity esn guide small clear =
     let number = not_refused (not (is_esn esn)) 508 last (omega arith) ends.1 in
     let apart = free (least_overlap g.ranges new None) (new_id g) number.1 in (
       sound-add g.ranges g.next g.limit new guide refl (record { ends = sound_new g.next key low high parity esn (not-false _ ends.0); free = apart.0 }) small (room g apart.1),
-      λ old. All-push (λ s. s.esn ≤ 99_999) g.ranges new old (small_esn esn (not-false _ number.0)),
+      λ old. All-push (λ s. s.esn ≤ HIGHEST_ESN) g.ranges new old (small_esn esn (not-false _ number.0)),
     )
 
 retire_keeps : (g : StreetGuide) (id : ℕ) → IsSoundGuide g.ranges g.next g.limit → Keeps g (retire_act g id)
-retire_keeps g id guide = (sound-remove g.ranges g.next g.limit id guide, All-filter (λ s. not (s.id == id)) (λ s. s.esn ≤ 99_999) g.ranges)
+retire_keeps g id guide = (sound-remove g.ranges g.next g.limit id guide, All-filter (λ s. not (s.id == id)) (λ s. s.esn ≤ HIGHEST_ESN) g.ranges)
 
 -- the high end of a range of a guide is a house number
-low_high : (g : StreetGuide) (id : ℕ) (r : Range) → IsSoundGuide g.ranges g.next g.limit → range_of g.ranges id ≡ Some r → r.high ≤ 999_999
-low_high g id r guide found = All-contains (λ s. s.high ≤ 999_999) g.ranges r guide.numbers (live g.ranges id r found).0
+low_high : (g : StreetGuide) (id : ℕ) (r : Range) → IsSoundGuide g.ranges g.next g.limit → range_of g.ranges id ≡ Some r → r.high ≤ HIGHEST_HOUSE
+low_high g id r guide found = All-contains (λ s. s.high ≤ HIGHEST_HOUSE) g.ranges r guide.numbers (live g.ranges id r found).0
 
 set_esn_keeps : (g : StreetGuide) (rows : NumberTable) (id esn : ℕ) → IsSoundGuide g.ranges g.next g.limit → (set_esn_verdict g rows id esn).code ≡ 0 → Keeps g (set_esn_act g id esn)
 set_esn_keeps g rows id esn guide clear =
@@ -117,7 +119,7 @@ set_esn_keeps g rows id esn guide clear =
 
 -- the range keeps its number
 own_digits : (g : StreetGuide) (id low high : ℕ) (r : Range) → range_of g.ranges id ≡ Some r → HaveFiveDigits g.ranges → HaveFiveDigits (with_moved g.ranges id low high r.esn)
-own_digits g id low high r found old = moved_digits g.ranges id low high r.esn (All-contains (λ s. s.esn ≤ 99_999) g.ranges r old (live g.ranges id r found).0) old
+own_digits g id low high r found old = moved_digits g.ranges id low high r.esn (All-contains (λ s. s.esn ≤ HIGHEST_ESN) g.ranges r old (live g.ranges id r found).0) old
 
 renumber_keeps : (g : StreetGuide) (rows : NumberTable) (id : ℕ) (by : ℤ) → IsSoundGuide g.ranges g.next g.limit → (renumber_verdict g rows id by).code ≡ 0 → Keeps g (renumber_act g id by)
 renumber_keeps g rows id by guide clear =
@@ -127,7 +129,7 @@ renumber_keeps g rows id by guide clear =
     let r : Range = w.0 in
     let even = not_refused (is_one_parity r.parity && is_odd by) 507 (second r) (omega arith) w.2 in
     let inside = not_refused (not (stays_house r.low by && stays_house r.high by)) 506 (last r) (omega arith) even.1 in
-    let ends = both (stays_house r.low by) (stays_house r.high by) (not-false _ inside.0) in
+    let ends = and_parts (stays_house r.low by) (stays_house r.high by) (not-false _ inside.0) in
     let apart = free (least_overlap g.ranges (shifted r by) (Some id)) (done (count_held rows r)) inside.1 in
     let stands = may_stand-shifted g.ranges g.next g.limit id by r guide w.1 even.0 ends.0 ends.1 apart.0 in
     rw w.1 (
@@ -143,15 +145,15 @@ split_keeps g id at esn guide clear =
     let parts = not_refused (has_empty_part r at) 505 second (omega arith) w.2 in
     let between = both_parts r at parts.0 in
     let number = not_refused (not (is_esn esn)) 508 (new_id g) (omega arith) parts.1 in
-    let top : r.high ≤ 999_999 = low_high g id r guide w.1 in
-    let last = last_to-is r.parity r.low at (sound_ends g.ranges g.next g.limit id r guide w.1).low_parity between.0 in
-    let xs = with_moved g.ranges id r.low (last_to r.parity at) r.esn in
-    let lower = moved_kept g.ranges g.next g.limit id r.low (last_to r.parity at) r.esn r guide w.1 (may_stand-lower g.ranges g.next g.limit id at r guide w.1 between.0 between.1) (omega (arith, last.1, between.1, top)) in
+    let top : r.high ≤ HIGHEST_HOUSE = low_high g id r guide w.1 in
+    let last = greatest_to-is r.parity r.low at (sound_ends g.ranges g.next g.limit id r guide w.1).low_parity between.0 in
+    let xs = with_moved g.ranges id r.low (greatest_to r.parity at) r.esn in
+    let lower = moved_kept g.ranges g.next g.limit id r.low (greatest_to r.parity at) r.esn r guide w.1 (may_stand-lower g.ranges g.next g.limit id at r guide w.1 between.0 between.1) (omega (arith, last.1, between.1, top)) in
     let upper = may_stand-upper g.ranges g.next g.limit id g.next at esn r guide w.1 between.0 between.1 in
-    let space : length xs + 1 ≤ g.limit = omega (arith, room g number.1, length-map g.ranges (λ (s : Range). cond (s.id == id) (moved s r.low (last_to r.parity at) r.esn) s)) in
+    let space : length xs + 1 ≤ g.limit = omega (arith, room g number.1, length-map g.ranges (λ (s : Range). cond (s.id == id) (moved s r.low (greatest_to r.parity at) r.esn) s)) in
     rw w.1 (
       sound-add xs g.next g.limit (upper_part r g.next at esn) lower refl upper top space,
-      λ old. All-push (λ s. s.esn ≤ 99_999) xs (upper_part r g.next at esn) (own_digits g id r.low (last_to r.parity at) r w.1 old) (small_esn esn (not-false _ number.0)),
+      λ old. All-push (λ s. s.esn ≤ HIGHEST_ESN) xs (upper_part r g.next at esn) (own_digits g id r.low (greatest_to r.parity at) r w.1 old) (small_esn esn (not-false _ number.0)),
     )
 
 -- an edit that is done leaves a sound guide, whose numbers have five digits where they had

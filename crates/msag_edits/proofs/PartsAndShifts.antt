@@ -2,14 +2,14 @@
 use Rattle.std.proofs.Common.{◌≡◌, ℕ, ◌<◌, ◌≤◌, Bool, true, false, ◌&&◌, not, nat_le, ℤ, refl, sym, arith, ◌⊎◌, inl, inr}
 use Rattle.std.specs.Bool.{Decides}
 use Rattle.std.proofs.lemmas.Bool.Decides.{nat_tests}
+use Rattle.std.proofs.lemmas.Bool.{and_parts, and_from}
 use Rattle.msag_ranges.specs.StreetGuide.{HasSoundEnds, is_held}
 use Rattle.msag_ranges.specs.declared.range.Range.{Range}
-use Rattle.msag_ranges.proofs.Overlapping.{both, and-true}
 use Rattle.number_table.specs.HouseArithmetic.{added, stays_house}
 use Rattle.msag_edits.specs.HouseArithmetic.{is_odd, is_one_parity}
 use Rattle.msag_edits.specs.EditRules.{has_empty_part, lower_part, upper_part, shifted}
 use Rattle.number_table.proofs.HeldAddresses.{stays-between, held-parts, held-from}
-use Rattle.msag_edits.proofs.Arithmetic.{last_to-is, first_above-is, none_between, added-order, added-parity, removed, removed-added, removed-parity, removed-order}
+use Rattle.msag_edits.proofs.Arithmetic.{greatest_to-is, least_above-is, none_between, added-order, added-parity, removed, removed-added, removed-parity, removed-order}
 use Rattle.msag_edits.proofs.Ranges.{both_parts, not_true}
 
 -- tests that say the same are the same
@@ -34,33 +34,33 @@ test-gt n m h = grind (arith, nat_tests)
 pub lower-holds : (r : Range) (at n : ℕ) → HasSoundEnds r → has_empty_part r at ≡ false → is_held (lower_part r at) n ≡ (is_held r n && nat_le n at)
 lower-holds r at n ends parts =
     let w = both_parts r at parts in
-    let v = last_to-is r.parity r.low at ends.low_parity w.0 in
+    let v = greatest_to-is r.parity r.low at ends.low_parity w.0 in
     same_tests (is_held (lower_part r at) n) (is_held r n && nat_le n at)
-    (λ h. let p = held-parts (lower_part r at) n h in and-true _ _ (held-from r n (p.0, omega (arith, p.1, v.1, w.1), p.2)) (le-test n at (omega (arith, p.1, v.1))))
-    (λ h. let q = both (is_held r n) (nat_le n at) h in
+    (λ h. let p = held-parts (lower_part r at) n h in and_from _ _ (held-from r n (p.0, omega (arith, p.1, v.1, w.1), p.2)) (le-test n at (omega (arith, p.1, v.1))))
+    (λ h. let q = and_parts (is_held r n) (nat_le n at) h in
     let p = held-parts r n q.0 in
     held-from (lower_part r at) n (p.0, (none_between r.parity at n p.2).0 (test-le n at q.1), p.2))
 
 pub upper-holds : (r : Range) (id at esn n : ℕ) → HasSoundEnds r → has_empty_part r at ≡ false → is_held (upper_part r id at esn) n ≡ (is_held r n && not (nat_le n at))
 upper-holds r id at esn n ends parts =
     let w = both_parts r at parts in
-    let v = first_above-is r.parity r.high at ends.high_parity w.1 in
+    let v = least_above-is r.parity r.high at ends.high_parity w.1 in
     same_tests (is_held (upper_part r id at esn) n) (is_held r n && not (nat_le n at))
-    (λ h. let p = held-parts (upper_part r id at esn) n h in and-true _ _ (held-from r n (omega (arith, p.0, v.0, w.0), p.1, p.2)) (gt-test n at (omega (arith, p.0, v.0))))
-    (λ h. let q = both (is_held r n) (not (nat_le n at)) h in
+    (λ h. let p = held-parts (upper_part r id at esn) n h in and_from _ _ (held-from r n (omega (arith, p.0, v.0, w.0), p.1, p.2)) (gt-test n at (omega (arith, p.0, v.0))))
+    (λ h. let q = and_parts (is_held r n) (not (nat_le n at)) h in
     let p = held-parts r n q.0 in
     held-from (upper_part r id at esn) n ((none_between r.parity at n p.2).1 (test-gt n at q.1), p.1, p.2))
 
 pub lower-ends : (r : Range) (at : ℕ) → HasSoundEnds r → has_empty_part r at ≡ false → HasSoundEnds (lower_part r at)
 lower-ends r at ends parts =
     let w = both_parts r at parts in
-    let v = last_to-is r.parity r.low at ends.low_parity w.0 in
+    let v = greatest_to-is r.parity r.low at ends.low_parity w.0 in
     record { ordered = v.0; low_parity = ends.low_parity; high_parity = v.3 }
 
 pub upper-ends : (r : Range) (id at esn : ℕ) → HasSoundEnds r → has_empty_part r at ≡ false → HasSoundEnds (upper_part r id at esn)
 upper-ends r id at esn ends parts =
     let w = both_parts r at parts in
-    let v = first_above-is r.parity r.high at ends.high_parity w.1 in
+    let v = least_above-is r.parity r.high at ends.high_parity w.1 in
     record { ordered = v.1; low_parity = v.3; high_parity = ends.high_parity }
 
 -- 505 is told exactly where a part would hold no number

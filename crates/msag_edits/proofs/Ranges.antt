@@ -1,20 +1,22 @@
 -- Ranges among the others of a guide.
-use Rattle.std.proofs.Common.{◌≡◌, ◌≢◌, ℕ, ◌<◌, ◌≤◌, ◌==◌, Bool, true, false, cond, ◌&&◌, not, ℤ, List, [], ◌∷◌, get_or, map, refl, sym, ap, subst, ◌∙◌, arith, Option, Some, None, suc, ◌⊎◌, inl, inr, All, AllPairs, filter, find, IfSome, Contains}
+use Rattle.std.proofs.Common.{◌≡◌, ◌≢◌, ℕ, ◌+◌, ◌<◌, ◌≤◌, ◌==◌, Bool, true, false, cond, ◌&&◌, not, ℤ, List, [], ◌∷◌, get_or, map, refl, sym, ap, subst, ◌∙◌, arith, Option, Some, None, suc, ◌⊎◌, inl, inr, All, AllPairs, filter, find, IfSome, Contains}
 use Rattle.std.proofs.lemmas.List.{get_or_default}
 use Rattle.std.proofs.lemmas.List.Elements.{All-tail, All-head, All-contains, All-map, All-weaker, Contains-get_or}
 use Rattle.ali_base.specs.StreetKey.{same_key}
 use Rattle.std.proofs.lemmas.Bool.Decides.{nat_tests}
+use Rattle.std.proofs.lemmas.Bool.{and_parts, and_from}
 use Rattle.msag_ranges.specs.StreetGuide.{HasSoundEnds, IsSoundGuide, MayStand, Overlap, overlaps, least, least_overlap, is_other, holds, is_held, range_of, moved, with_moved}
+use Rattle.msag_ranges.specs.HeldNumbers.{greatest_to, least_from}
 use Rattle.msag_ranges.specs.declared.range.Range.{Range}
 use Rattle.ali_base.specs.declared.street_key.StreetKey.{StreetKey}
 use Rattle.ali_base.specs.Steps.{when}
 use Rattle.ali_base.specs.declared.house.TheConstants.{HIGHEST_HOUSE}
 use Rattle.number_table.specs.HouseArithmetic.{added, stays_house}
-use Rattle.msag_edits.specs.HouseArithmetic.{is_odd, is_one_parity, last_to, first_above}
+use Rattle.msag_edits.specs.HouseArithmetic.{is_odd, is_one_parity}
 use Rattle.msag_edits.specs.EditRules.{upper_part, has_empty_part}
-use Rattle.msag_edits.proofs.Arithmetic.{choice, last_to-is, first_above-is, added-order, added-parity}
+use Rattle.msag_edits.proofs.Arithmetic.{choice, greatest_to-is, least_above-is, added-order, added-parity}
 use Rattle.number_table.proofs.HeldAddresses.{Holds, held-parts, held-from}
-use Rattle.msag_ranges.proofs.Overlapping.{both, and-true, overlaps-found}
+use Rattle.msag_ranges.proofs.Overlapping.{overlaps-found}
 
 -- the first element that passes is one of the list, and passes
 pub find-is : {X : Type 0} (p : X → Bool) (xs : List X) (r : X) → find p xs ≡ Some r → Contains xs r × (p r ≡ true)
@@ -41,7 +43,7 @@ pub free-from : (xs : List Range) (s : Range) (except : Option ℕ) → All (λ 
 free-from xs s except h =
     ap (λ (ys : List Range). least (map (λ t. t.id) ys)) (filter-empty (λ t. is_other except t.id && overlaps s t) xs
     (All-weaker (λ t. is_other except t.id ≡ true → Overlap s t → ⊥) (λ t. (is_other except t.id && overlaps s t) ≡ false)
-    (λ t k. not_true (is_other except t.id && overlaps s t) (λ e. let w = both (is_other except t.id) (overlaps s t) e in k w.0 (overlaps-found s t w.1))) xs h))
+    (λ t k. not_true (is_other except t.id && overlaps s t) (λ e. let w = and_parts (is_other except t.id) (overlaps s t) e in k w.0 (overlaps-found s t w.1))) xs h))
 
 same_id : (r : Range) (id : ℕ) → (r.id == id) ≡ true → r.id ≡ id
 same_id r id h = grind (arith, nat_tests)
@@ -93,8 +95,8 @@ pub record IsPartOf (s r : Range) : Type 0 where
 
 pub part-holds : (s r : Range) (key : StreetKey) (n : ℕ) → IsPartOf s r → holds s key n ≡ true → holds r key n ≡ true
 part-holds s r key n part h =
-    let w = both (same_key s.key key) (is_held s n) h in
-    and-true _ _ (subst (λ k. same_key k key ≡ true) part.street w.0) (held-from r n (part.numbers n (held-parts s n w.1)))
+    let w = and_parts (same_key s.key key) (is_held s n) h in
+    and_from _ _ (subst (λ k. same_key k key ≡ true) part.street w.0) (held-from r n (part.numbers n (held-parts s n w.1)))
 
 other_id : (id : ℕ) (t : Range) → is_other (Some id) t.id ≡ true → t.id ≡ id → ⊥
 other_id id t h e =
@@ -149,63 +151,63 @@ may_stand-shifted xs next limit id by r g found even low high free =
     }
 
 -- the part of a range up to `at`
-pub lower-part : (r : Range) (at esn : ℕ) → HasSoundEnds r → r.low ≤ at → at < r.high → IsPartOf (moved r r.low (last_to r.parity at) esn) r
+pub lower-part : (r : Range) (at esn : ℕ) → HasSoundEnds r → r.low ≤ at → at < r.high → IsPartOf (moved r r.low (greatest_to r.parity at) esn) r
 lower-part r at esn ends low high =
-    let w = last_to-is r.parity r.low at ends.low_parity low in
+    let w = greatest_to-is r.parity r.low at ends.low_parity low in
     record { street = refl; numbers = λ n h. (h.0, omega (arith, h.1, w.1), h.2) }
 
 -- the part of it above `at`
 pub upper-part : (r : Range) (id at esn : ℕ) → HasSoundEnds r → r.low ≤ at → at < r.high → IsPartOf (upper_part r id at esn) r
 upper-part r id at esn ends low high =
-    let w = first_above-is r.parity r.high at ends.high_parity high in
+    let w = least_above-is r.parity r.high at ends.high_parity high in
     record { street = refl; numbers = λ n h. (omega (arith, h.0, w.0), h.1, h.2) }
 
 pub may_stand-lower : (xs : List Range) (next limit id at : ℕ) (r : Range) → IsSoundGuide xs next limit → range_of xs id ≡ Some r → r.low ≤ at → at < r.high
-    → MayStand xs (moved r r.low (last_to r.parity at) r.esn) (Some id)
+    → MayStand xs (moved r r.low (greatest_to r.parity at) r.esn) (Some id)
 may_stand-lower xs next limit id at r g found low high =
     let ends = sound_ends xs next limit id r g found in
-    let w = last_to-is r.parity r.low at ends.low_parity low in
+    let w = greatest_to-is r.parity r.low at ends.low_parity low in
     record {
       ends = record { ordered = w.0; low_parity = ends.low_parity; high_parity = w.3 };
-      free = part-free xs next limit id r (moved r r.low (last_to r.parity at) r.esn) g found (lower-part r at r.esn ends low high);
+      free = part-free xs next limit id r (moved r r.low (greatest_to r.parity at) r.esn) g found (lower-part r at r.esn ends low high);
     }
 
-pub upper-limit : (xs : List Range) (next limit id at : ℕ) (r : Range) → IsSoundGuide xs next limit → range_of xs id ≡ Some r → at < r.high → first_above r.parity at ≤ HIGHEST_HOUSE
+pub upper-limit : (xs : List Range) (next limit id at : ℕ) (r : Range) → IsSoundGuide xs next limit → range_of xs id ≡ Some r → at < r.high → least_from r.parity (at + 1) ≤ HIGHEST_HOUSE
 upper-limit xs next limit id at r g found high =
     let ends = sound_ends xs next limit id r g found in
-    let w = first_above-is r.parity r.high at ends.high_parity high in
+    let w = least_above-is r.parity r.high at ends.high_parity high in
     let top : r.high ≤ HIGHEST_HOUSE = All-contains (λ s. s.high ≤ HIGHEST_HOUSE) xs r g.numbers (live xs id r found).0 in
     omega (arith, w.1, top)
 
 -- the two parts share no number
-parts_apart : (r : Range) (id at esn n : ℕ) → Holds (upper_part r id at esn) n → Holds (moved r r.low (last_to r.parity at) r.esn) n → HasSoundEnds r → r.low ≤ at → at < r.high → ⊥
+parts_apart : (r : Range) (id at esn n : ℕ) → Holds (upper_part r id at esn) n → Holds (moved r r.low (greatest_to r.parity at) r.esn) n → HasSoundEnds r → r.low ≤ at → at < r.high → ⊥
 parts_apart r id at esn n h k ends low high =
-    let w = last_to-is r.parity r.low at ends.low_parity low in
-    let v = first_above-is r.parity r.high at ends.high_parity high in
+    let w = greatest_to-is r.parity r.low at ends.low_parity low in
+    let v = least_above-is r.parity r.high at ends.high_parity high in
     omega (arith, h.0, k.1, w.1, v.0)
 
 pub may_stand-upper : (xs : List Range) (next limit id new at esn : ℕ) (r : Range) → IsSoundGuide xs next limit → range_of xs id ≡ Some r → r.low ≤ at → at < r.high
-    → MayStand (with_moved xs id r.low (last_to r.parity at) r.esn) (upper_part r new at esn) None
+    → MayStand (with_moved xs id r.low (greatest_to r.parity at) r.esn) (upper_part r new at esn) None
 may_stand-upper xs next limit id new at esn r g found low high =
     let ends = sound_ends xs next limit id r g found in
-    let v = first_above-is r.parity r.high at ends.high_parity high in
+    let v = least_above-is r.parity r.high at ends.high_parity high in
     let w = live xs id r found in
     let s : Range = upper_part r new at esn in
     let part : IsPartOf s r = upper-part r new at esn ends low high in
-    let change : Range → Range = λ t. cond (t.id == id) (moved t r.low (last_to r.parity at) r.esn) t in
+    let change : Range → Range = λ t. cond (t.id == id) (moved t r.low (greatest_to r.parity at) r.esn) t in
     record {
       ends = record { ordered = v.1; low_parity = v.3; high_parity = ends.high_parity };
-      free = free-from (with_moved xs id r.low (last_to r.parity at) r.esn) s None
+      free = free-from (with_moved xs id r.low (greatest_to r.parity at) r.esn) s None
           (All-map (λ t. is_other None t.id ≡ true → Overlap s t → ⊥) change xs (λ k d inside.
           let t : Range = get_or xs k d in
           let there : Contains xs t = Contains-get_or xs k d inside in
-          choice (t.id == id) (moved t r.low (last_to r.parity at) r.esn) t (λ u. is_other None u.id ≡ true → Overlap s u → ⊥)
+          choice (t.id == id) (moved t r.low (greatest_to r.parity at) r.esn) t (λ u. is_other None u.id ≡ true → Overlap s u → ⊥)
           (λ e _ o.
           let is : t ≡ r = one_of_id xs t r (different_ids xs g.rising) there w.0 (same_id t id e ∙ sym w.1) in
-          let a : Holds s o.1 = held-parts s o.1 (both (same_key s.key o.0) (is_held s o.1) o.2).1 in
-          let lower : Range = moved r r.low (last_to r.parity at) r.esn in
-          let b : holds lower o.0 o.1 ≡ true = subst (λ (x : Range). holds (moved x r.low (last_to r.parity at) r.esn) o.0 o.1 ≡ true) is o.3 in
-          parts_apart r new at esn o.1 a (held-parts lower o.1 (both (same_key lower.key o.0) (is_held lower o.1) b).1) ends low high)
+          let a : Holds s o.1 = held-parts s o.1 (and_parts (same_key s.key o.0) (is_held s o.1) o.2).1 in
+          let lower : Range = moved r r.low (greatest_to r.parity at) r.esn in
+          let b : holds lower o.0 o.1 ≡ true = subst (λ (x : Range). holds (moved x r.low (greatest_to r.parity at) r.esn) o.0 o.1 ≡ true) is o.3 in
+          parts_apart r new at esn o.1 a (held-parts lower o.1 (and_parts (same_key lower.key o.0) (is_held lower o.1) b).1) ends low high)
           (λ e _ o.
           let is : t ≡ r = one_holder xs t r g.apart there w.0 (o.0, o.1, o.3, part-holds s r o.0 o.1 part o.2) in
           let same : t.id ≡ id = ap (λ (x : Range). x.id) is ∙ w.1 in

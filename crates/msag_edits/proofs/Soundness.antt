@@ -1,5 +1,5 @@
 -- Edits keep guide and rows sound.
-use Rattle.std.proofs.Common.{◌≡◌, ◌≢◌, ℕ, ◌+◌, ◌<◌, ◌≤◌, ◌==◌, Bool, true, false, cond, ◌&&◌, not, nat_le, ℤ, List, [], ◌∷◌, ◌++◌, length, map, refl, sym, ap, subst, ◌∙◌, arith, Option, Some, None, zero, suc, filter, find, IfSome, Contains, inl, inr, if◌then◌else◌, ◌⊎◌, Result, Ok, Err, IfOk, OnErr}
+use Rattle.std.proofs.Common.{◌≡◌, ◌≢◌, ℕ, ◌+◌, ◌<◌, ◌≤◌, ◌==◌, Bool, true, false, cond, ◌&&◌, not, nat_le, ℤ, List, [], ◌∷◌, ◌++◌, length, map, refl, sym, ap, subst, ◌∙◌, arith, Option, Some, None, zero, suc, filter, find, IfSome, Contains, inl, inr, if◌then◌else◌, ◌⊎◌, Result, Ok, Err}
 use Rattle.ali_base.specs.declared.no_memory.NoMemory.{NoMemory}
 use Rattle.std.specs.Option.{option_map, option_map_or}
 use Rattle.std.specs.FinMap.{get, entries, get-entries}
@@ -7,26 +7,27 @@ use Rattle.std.specs.FinMap.Entries as ordered
 use Rattle.std.proofs.lemmas.List.Elements.{Contains-append_left, Contains-push, All-contains}
 use Rattle.std.proofs.lemmas.Bool.Decides.{nat_tests}
 use Rattle.msag_ranges.specs.StreetGuide.{StreetGuide, IsSoundGuide, new_range, least_overlap, holds, is_held, moved, with_moved, without}
+use Rattle.msag_ranges.specs.HeldNumbers.{greatest_to}
 use Rattle.msag_ranges.specs.declared.range.Range.{Range}
 use Rattle.number_life.specs.declared.row.Row.{Row}
 use Rattle.number_table.specs.NumberTable.{NumberTable, tn_cmp}
 use Rattle.number_table.specs.HeldRows.{count_held, AreChanged, holds_row, least_held, record_house, esn_row, shifted_row}
 use Rattle.msag_edits.specs.EditRules.{EditAct, upper_part, shifted, has_empty_part, is_esn, refused, done, new_id, unless_overlap, for_range, unused, on_range, nothing, add_act, retire_verdict, split_verdict, split_act, renumber_verdict, renumber_act, set_esn_verdict, set_esn_act}
-use Rattle.msag_edits.specs.Edits.{edit_verdict, edit_act}
+use Rattle.msag_edits.specs.Edits.{edit_verdict, edit_act, AreKept, IsApplied}
 use Rattle.msag_edits.specs.declared.edit_verdict.EditVerdict.{EditVerdict}
 use Rattle.office_entry.specs.declared.edit.Edit.{Edit}
 use Rattle.office_entry.specs.declared.edit.Edit.TheVariants.{Add, Retire, Split, Renumber, SetEsn}
 use Rattle.ali_base.specs.declared.parity.Parity.{Parity}
 use Rattle.ali_base.specs.declared.street_key.StreetKey.{StreetKey}
 use Rattle.number_table.specs.HouseArithmetic.{added, stays_house}
-use Rattle.msag_edits.specs.HouseArithmetic.{is_odd, is_one_parity, last_to}
+use Rattle.msag_edits.specs.HouseArithmetic.{is_odd, is_one_parity}
 use Rattle.ali_record.specs.FieldChanges.{with_house, with_esn}
 use Rattle.ali_base.specs.Numbers.{zero_padded}
 use Rattle.ali_base.specs.StreetKey.{same_key}
 use Rattle.ali_base.specs.declared.house.TheConstants.{HIGHEST_HOUSE}
 use Rattle.ali_base.specs.declared.esn.TheConstants.{HIGHEST_ESN}
 use Rattle.std.specs.Ordering.{eq_by_cmp}
-use Rattle.msag_ranges.proofs.Overlapping.{both, and-true}
+use Rattle.std.proofs.lemmas.Bool.{and_parts, and_from}
 use Rattle.number_table.proofs.HeldAddresses.{stays-between, held-parts, held-from, held-address, held-by, same-address}
 use Rattle.msag_edits.proofs.Arithmetic.{choice, not_both, none_between, added-order, added-parity, added-limit}
 use Rattle.ali_record.specs.Address.{record_key}
@@ -161,39 +162,39 @@ placed-set_esn g rows id esn r row sound found small p =
 -- ---- SPLIT
 
 -- what the upper part does not hold, the lower part holds
-not_above : (r : Range) (new at esn : ℕ) (row : Row) → holds_row r row ≡ true → holds_row (upper_part r new at esn) row ≡ false → holds_row (moved r r.low (last_to r.parity at) r.esn) row ≡ true
+not_above : (r : Range) (new at esn : ℕ) (row : Row) → holds_row r row ≡ true → holds_row (upper_part r new at esn) row ≡ false → holds_row (moved r r.low (greatest_to r.parity at) r.esn) row ≡ true
 not_above r new at esn row k h =
     let a = held-address r row.rec k in
     let n : ℕ = a.0 in
-    let q = both (same_key r.key (record_key row.rec)) (is_held r n) a.2 in
+    let q = and_parts (same_key r.key (record_key row.rec)) (is_held r n) a.2 in
     let w = held-parts r n q.1 in
     let gap = none_between r.parity at n w.2 in
     let s : Range = upper_part r new at esn in
     let below : n ≤ at = at_most n at (λ gt.
     let held : is_held s n ≡ true = held-from s n (gap.1 gt, w.1, w.2) in
-    not_both (holds_row s row) (held-by s row.rec n a.1 (and-true _ _ q.0 held)) h) in
-    held-by (moved r r.low (last_to r.parity at) r.esn) row.rec n a.1 (and-true _ _ q.0 (held-from (moved r r.low (last_to r.parity at) r.esn) n (w.0, gap.0 below, w.2)))
+    not_both (holds_row s row) (held-by s row.rec n a.1 (and_from _ _ q.0 held)) h) in
+    held-by (moved r r.low (greatest_to r.parity at) r.esn) row.rec n a.1 (and_from _ _ q.0 (held-from (moved r r.low (greatest_to r.parity at) r.esn) n (w.0, gap.0 below, w.2)))
 
 placed-split : (g : StreetGuide) (rows : NumberTable) (id new at esn : ℕ) (r : Range) (row : Row) → AreSound g rows → range_of g.ranges id ≡ Some r → esn ≤ HIGHEST_ESN
     → IsPlaced g.ranges row
-    → IsPlaced (with_moved g.ranges id r.low (last_to r.parity at) r.esn ++ upper_part r new at esn ∷ []) (esn_row (upper_part r new at esn) esn row)
+    → IsPlaced (with_moved g.ranges id r.low (greatest_to r.parity at) r.esn ++ upper_part r new at esn ∷ []) (esn_row (upper_part r new at esn) esn row)
 placed-split g rows id new at esn r row sound found small p =
-    let xs = with_moved g.ranges id r.low (last_to r.parity at) r.esn in
+    let xs = with_moved g.ranges id r.low (greatest_to r.parity at) r.esn in
     let s : Range = upper_part r new at esn in
-    let lower : Range = moved r r.low (last_to r.parity at) r.esn in
+    let lower : Range = moved r r.low (greatest_to r.parity at) r.esn in
     choice (holds_row s row) (record row { rec = with_esn row.rec esn }) row (IsPlaced (xs ++ s ∷ []))
     (λ h. placed-esn (xs ++ s ∷ []) s row p.size small (Contains-push xs s) h)
     (λ h. placed-add xs s row (stay (holds_row r row) refl h))
   where
-    stay : (b : Bool) → holds_row r row ≡ b → holds_row (upper_part r new at esn) row ≡ false → IsPlaced (with_moved g.ranges id r.low (last_to r.parity at) r.esn) row
-    stay false k h = placed-other g rows id r.low (last_to r.parity at) r.esn r row sound found k p
+    stay : (b : Bool) → holds_row r row ≡ b → holds_row (upper_part r new at esn) row ≡ false → IsPlaced (with_moved g.ranges id r.low (greatest_to r.parity at) r.esn) row
+    stay false k h = placed-other g rows id r.low (greatest_to r.parity at) r.esn r row sound found k p
     stay true k h =
         let w = live g.ranges id r found in
         let is : p.range ≡ r = one_of_row g rows p.range r row sound p.live w.0 p.held k in
         record {
           size = p.size;
-          range = moved r r.low (last_to r.parity at) r.esn;
-          live = moved-live g.ranges id r.low (last_to r.parity at) r.esn r found;
+          range = moved r r.low (greatest_to r.parity at) r.esn;
+          live = moved-live g.ranges id r.low (greatest_to r.parity at) r.esn r found;
           held = not_above r new at esn row k h;
           esn = p.esn ∙ ap (λ (t : Range). zero_padded 5 t.esn) is;
         }
@@ -214,7 +215,7 @@ placed-renumber g rows id by r row sound found even low high p =
     let n : ℕ = a.0 in
     let m : ℕ = added n by in
     let same : new ≡ m = ap (λ o. option_map_or (λ n. added n by) o 0) a.1 in
-    let q = both (same_key r.key (record_key row.rec)) (is_held r n) a.2 in
+    let q = and_parts (same_key r.key (record_key row.rec)) (is_held r n) a.2 in
     let at = held-parts r n q.1 in
     let top : r.high ≤ HIGHEST_HOUSE = All-contains (λ t. t.high ≤ HIGHEST_HOUSE) g.ranges r sound.numbers w.0 in
     let stays : stays_house n by ≡ true = stays-between r.low n r.high by at.0 at.1 low high in
@@ -226,7 +227,7 @@ placed-renumber g rows id by r row sound found even low high p =
       range = shifted r by;
       live = moved-live g.ranges id (added r.low by) (added r.high by) r.esn r found;
       held = held-by (shifted r by) (with_house row.rec m) m (house-there row.rec m size small)
-          (subst (λ key. holds (shifted r by) key m ≡ true) (sym (house-key row.rec m size small)) (and-true _ _ q.0 held));
+          (subst (λ key. holds (shifted r by) key m ≡ true) (sym (house-key row.rec m size small)) (and_from _ _ q.0 held));
       esn = house-esn row.rec m size small ∙ p.esn ∙ ap (λ (t : Range). zero_padded 5 t.esn) is;
     }))
     (λ k. placed-other g rows id (added r.low by) (added r.high by) r.esn r row sound found k p)
@@ -258,7 +259,7 @@ was_true true h = refl
 was_true false h = absurd cc
 
 esn-small : (esn : ℕ) → is_esn esn ≡ true → esn ≤ HIGHEST_ESN
-esn-small esn h = let w = both (nat_le 1 esn) (nat_le esn HIGHEST_ESN) h in grind (arith, nat_tests)
+esn-small esn h = let w = and_parts (nat_le 1 esn) (nat_le esn HIGHEST_ESN) h in grind (arith, nat_tests)
 
 retire-done : (g : StreetGuide) (rows after : NumberTable) (id : ℕ) → AreSound g rows → (retire_verdict g rows id).code ≡ 0
     → AreChanged (λ row. row) rows after → ArePlaced (without g.ranges id) after
@@ -277,7 +278,7 @@ split-done : (g : StreetGuide) (rows after : NumberTable) (id at esn : ℕ) → 
 split-done g rows after id at esn sound clear each =
     let test = λ (r : Range). (if has_empty_part r at then refused 505 else (if not (is_esn esn) then refused 508 else new_id g)) in
     let act = λ (r : Range). (let a : EditAct = record {
-      ranges = with_moved g.ranges id r.low (last_to r.parity at) r.esn ++ upper_part r g.next at esn ∷ [];
+      ranges = with_moved g.ranges id r.low (greatest_to r.parity at) r.esn ++ upper_part r g.next at esn ∷ [];
       next = g.next + 1;
       row = esn_row (upper_part r g.next at esn) esn;
     } in a) in
@@ -316,7 +317,7 @@ renumber-done g rows after id by sound clear each =
     let r : Range = w.0 in
     let even = not_refused (is_one_parity r.parity && is_odd by) 507 (second r) (omega arith) w.2 in
     let inside = not_refused (not (stays_house r.low by && stays_house r.high by)) 506 (last r) (omega arith) even.1 in
-    let ends = both (stays_house r.low by) (stays_house r.high by) (was_true (stays_house r.low by && stays_house r.high by) inside.0) in
+    let ends = and_parts (stays_house r.low by) (stays_house r.high by) (was_true (stays_house r.low by && stays_house r.high by) inside.0) in
     let is : renumber_act g id by ≡ act r = on_range-is g id act r w.1 in
     subst (λ (a : EditAct). ArePlaced a.ranges after) (sym is)
     (placed-through g.ranges (act r).ranges (act r).row rows after (subst (λ (a : EditAct). AreChanged a.row rows after) is each) sound.placed
@@ -342,31 +343,32 @@ sound-from g rows s placed = record {
   placed = placed;
 }
 
--- the ranges are the old ones and so are the rows
-sound-same : (g new : StreetGuide) (rows after : NumberTable) → new ≡ record g { spare = new.spare } → after ≡ rows → IsSoundGuide new.ranges new.next new.limit → AreSound g rows → AreSound new after
-sound-same g new rows after e same guide sound =
-    let ranges : new.ranges ≡ g.ranges = ap (λ (x : StreetGuide). x.ranges) e in
-    sound-from new after guide (subst (λ (m : NumberTable). ArePlaced new.ranges m) (sym same) (subst (λ (xs : List Range). ArePlaced xs rows) (sym ranges) sound.placed))
+-- guide and rows are the old ones
+sound-same : (g later : StreetGuide) (before after : NumberTable) → AreKept g later before after → AreSound g before → AreSound later after
+sound-same g later before after kept sound =
+    let same : AreSound (record g { spare = later.spare }) before = record {
+      ends = sound.ends;
+      numbers = sound.numbers;
+      different = sound.different;
+      known = sound.known;
+      apart = sound.apart;
+      placed = sound.placed;
+    } in
+    subst (λ (m : NumberTable). AreSound later m) (sym kept.rows) (subst (λ (x : StreetGuide). AreSound x before) (sym kept.guide) same)
 
 same_or_not : (n : ℕ) → (n ≡ 0) ⊎ (n ≢ 0)
 same_or_not n = grind arith
 
 -- whatever an edit answers, guide and rows stay sound
-pub sound-kept : (g new : StreetGuide) (rows after : NumberTable) (edit : Edit) (result : Result EditVerdict NoMemory)
-    → IfOk result (λ v. v ≡ edit_verdict g rows edit)
-    → IfOk result (λ v. v.code ≡ 0 → new ≡ record g { ranges = (edit_act g edit).ranges; next = (edit_act g edit).next; spare = new.spare })
-    → IfOk result (λ v. v.code ≡ 0 → AreChanged (edit_act g edit).row rows after)
-    → IfOk result (λ v. v.code ≢ 0 → new ≡ record g { spare = new.spare })
-    → IfOk result (λ v. v.code ≢ 0 → after ≡ rows)
-    → OnErr result (new ≡ record g { spare = new.spare })
-    → OnErr result (after ≡ rows)
-    → IsSoundGuide new.ranges new.next new.limit → AreSound g rows → AreSound new after
-sound-kept g new rows after edit (Err e) v d r k m n o guide sound = sound-same g new rows after n o guide sound
-sound-kept g new rows after edit (Ok x) v d r k m n o guide sound =
-    elim (same_or_not x.code) as (λ _. AreSound new after) [
+pub sound-kept : (edit : Edit) (g later : StreetGuide) (before after : NumberTable) (result : Result EditVerdict NoMemory)
+    → IsApplied edit g later before after result → AreSound g before → AreSound later after
+sound-kept edit g later before after (Err e) applied sound = sound-same g later before after applied.kept sound
+sound-kept edit g later before after (Ok answer) applied sound =
+    elim (same_or_not answer.code) as (λ _. AreSound later after) [
       | inl is ↦ (
-          let code : (edit_verdict g rows edit).code ≡ 0 = sym (ap (λ (y : EditVerdict). y.code) v) ∙ is in
-          let ranges : new.ranges ≡ (edit_act g edit).ranges = ap (λ (y : StreetGuide). y.ranges) (d is) in
-          sound-from new after guide (subst (λ (xs : List Range). ArePlaced xs after) (sym ranges) (placed-kept g rows after edit sound code (r is))))
-      | inr other ↦ sound-same g new rows after (k other) (m other) guide sound
+          let done = applied.done is in
+          let code : (edit_verdict g before edit).code ≡ 0 = sym (ap (λ (v : EditVerdict). v.code) applied.verdict) ∙ is in
+          let ranges : later.ranges ≡ (edit_act g edit).ranges = ap (λ (x : StreetGuide). x.ranges) done.guide in
+          sound-from later after done.sound (subst (λ (xs : List Range). ArePlaced xs after) (sym ranges) (placed-kept g before after edit sound code done.rows)))
+      | inr other ↦ sound-same g later before after (applied.refused other) sound
     ]

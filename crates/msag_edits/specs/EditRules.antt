@@ -3,13 +3,14 @@ use Rattle.std.specs.Prelude.{ℕ, ◌+◌, ◌&&◌, ◌||◌, Bool, not, nat_l
 use Rattle.std.specs.Option.{option_map_or, unwrap_or}
 use Rattle.ali_base.specs.Digits.{digits_number}
 use Rattle.msag_ranges.specs.StreetGuide.{StreetGuide, has_parity, least_overlap, range_of, new_range, moved, with_moved, without}
+use Rattle.msag_ranges.specs.HeldNumbers.{greatest_to, least_from}
 use Rattle.ali_base.specs.declared.parity.Parity.{Parity}
 use Rattle.msag_ranges.specs.declared.range.Range.{Range}
 use Rattle.ali_base.specs.declared.street_key.StreetKey.{StreetKey}
 use Rattle.ali_base.specs.declared.esn.TheConstants.{HIGHEST_ESN}
 use Rattle.msag_edits.specs.declared.edit_verdict.EditVerdict.{EditVerdict}
 use Rattle.number_table.specs.HouseArithmetic.{added, stays_house}
-use Rattle.msag_edits.specs.HouseArithmetic.{is_odd, is_one_parity, last_to, first_above}
+use Rattle.msag_edits.specs.HouseArithmetic.{is_odd, is_one_parity}
 use Rattle.number_life.specs.declared.row.Row.{Row}
 use Rattle.number_table.specs.NumberTable.{NumberTable}
 use Rattle.number_table.specs.HeldRows.{count_held, least_held, esn_row, shifted_row}
@@ -122,16 +123,16 @@ retire_act g id = record { ranges = without g.ranges id; next = g.next; row = λ
 
 -- the part of the range up to `at`
 abbrev pub lower_part : Range → ℕ → Range
-lower_part r at = moved r r.low (last_to r.parity at) r.esn
+lower_part r at = moved r r.low (greatest_to r.parity at) r.esn
 
 -- the part of the range above `at`, as a range of this id
 abbrev pub upper_part : Range → ℕ → ℕ → ℕ → Range
-upper_part r id at esn = new_range id r.key (first_above r.parity at) r.high r.parity esn
+upper_part r id at esn = new_range id r.key (least_from r.parity (at + 1)) r.high r.parity esn
 
 -- SPLIT: the range keeps its numbers up to `at`; those above become a new range with the emergency service number, which the rows of that part get
 abbrev pub split_act : StreetGuide → ℕ → ℕ → ℕ → EditAct
 split_act g id at esn = on_range g id (λ r. record {
-  ranges = with_moved g.ranges id r.low (last_to r.parity at) r.esn ++ upper_part r g.next at esn ∷ [];
+  ranges = with_moved g.ranges id r.low (greatest_to r.parity at) r.esn ++ upper_part r g.next at esn ∷ [];
   next = g.next + 1;
   row = esn_row (upper_part r g.next at esn) esn;
 })

@@ -1,10 +1,13 @@
 //! ADD: a new range.
-ghost use Rattle.std.specs.Prelude.{◌≡◌, ◌≢◌, ◌+◌, ◌<◌, IfOk, OnErr};
-ghost use Rattle.msag_edits.specs.EditRules.{add_verdict, add_act, are_sound_ends};
+ghost use Rattle.std.specs.Prelude.{◌≡◌, ◌<◌};
+ghost use Rattle.number_table.specs.NumberTable.{NumberTable};
+ghost use Rattle.msag_edits.specs.EditRules.{are_sound_ends};
+ghost use Rattle.msag_edits.specs.Edits.{IsApplied};
 
 use crate::edit_verdict::EditVerdict;
 use ali_base::{Esn, House, NoMemory, Parity, StreetKey};
 use msag_ranges::{Guide, GuideFault, Range, has_parity};
+use office_entry::Edit;
 
 // Whether the ends are in order and of the parity.
 fn are_sound_ends(parity: Parity, low: House, high: House) -> bool
@@ -23,11 +26,7 @@ pub(crate) fn add(
     esn: u32,
 ) -> Result<EditVerdict, NoMemory>
     requires { guide.old.next < 4_294_967_295 }
-    ensures verdict { IfOk result (λ v. v ≡ add_verdict guide.old key.now low high parity esn) }
-    ensures ranges { IfOk result (λ v. v.code ≡ 0 → guide.new ≡ record guide.old { ranges = (add_act guide.old key.now low high parity esn).ranges; next = guide.old.next + 1; spare = guide.new.spare }) }
-    ensures refused { IfOk result (λ v. v.code ≢ 0 → guide.new ≡ record guide.old { spare = guide.new.spare }) }
-    ensures memory { OnErr result ((add_verdict guide.old key.now low high parity esn).code ≡ 0) }
-    ensures err { OnErr result (guide.new ≡ record guide.old { spare = guide.new.spare }) }
+    ensures { (rows : NumberTable) → IsApplied (Edit.Add key.now low high parity esn) guide.old guide.new rows rows result }
 {
     if !are_sound_ends(parity, low, high) {
         return Ok(EditVerdict::refused(503));

@@ -1,8 +1,7 @@
 //! Any edit.
-ghost use Rattle.std.specs.Prelude.{◌≡◌, ◌≢◌, ◌<◌, IfOk, OnErr};
-ghost use Rattle.msag_edits.specs.Edits.{edit_verdict, edit_act, MayWantMemory};
+ghost use Rattle.std.specs.Prelude.{◌<◌};
+ghost use Rattle.msag_edits.specs.Edits.{IsApplied};
 ghost use Rattle.msag_edits.specs.GuideSoundness.{AreSound};
-ghost use Rattle.number_table.specs.HeldRows.{AreChanged};
 
 use crate::add::add;
 use crate::edit_verdict::EditVerdict;
@@ -22,14 +21,7 @@ fn carry_out<R: RowMover>(
     edit: &Edit,
 ) -> Result<EditVerdict, NoMemory>
     requires { guide.old.next < 4_294_967_295 }
-    ensures verdict { IfOk result (λ v. v ≡ edit_verdict guide.old (R.rows rows.old) edit.now) }
-    ensures guide { IfOk result (λ v. v.code ≡ 0 → guide.new ≡ record guide.old { ranges = (edit_act guide.old edit.now).ranges; next = (edit_act guide.old edit.now).next; spare = guide.new.spare }) }
-    ensures rows { IfOk result (λ v. v.code ≡ 0 → AreChanged (edit_act guide.old edit.now).row (R.rows rows.old) (R.rows rows.new)) }
-    ensures refused { IfOk result (λ v. v.code ≢ 0 → guide.new ≡ record guide.old { spare = guide.new.spare }) }
-    ensures rows_refused { IfOk result (λ v. v.code ≢ 0 → R.rows rows.new ≡ R.rows rows.old) }
-    ensures memory { OnErr result (MayWantMemory guide.old (R.rows rows.old) edit.now) }
-    ensures err { OnErr result (guide.new ≡ record guide.old { spare = guide.new.spare }) }
-    ensures rows_err { OnErr result (R.rows rows.new ≡ R.rows rows.old) }
+    ensures { IsApplied edit.now guide.old guide.new (R.rows rows.old) (R.rows rows.new) result }
 {
     match edit {
         Edit::Add {
@@ -55,21 +47,8 @@ pub fn apply_edit<R: RowMover>(
     edit: &Edit,
 ) -> Result<EditVerdict, NoMemory>
     requires { guide.old.next < 4_294_967_295 }
-    ensures verdict { IfOk result (λ v. v ≡ edit_verdict guide.old (R.rows rows.old) edit.now) }
-    // What it leaves where it is done.
-    ensures guide { IfOk result (λ v. v.code ≡ 0 → guide.new ≡ record guide.old { ranges = (edit_act guide.old edit.now).ranges; next = (edit_act guide.old edit.now).next; spare = guide.new.spare }) }
-    ensures rows { IfOk result (λ v. v.code ≡ 0 → AreChanged (edit_act guide.old edit.now).row (R.rows rows.old) (R.rows rows.new)) }
-    // What it leaves where it is not.
-    ensures refused { IfOk result (λ v. v.code ≢ 0 → guide.new ≡ record guide.old { spare = guide.new.spare }) }
-    ensures rows_refused { IfOk result (λ v. v.code ≢ 0 → R.rows rows.new ≡ R.rows rows.old) }
-    // Memory runs out at an ADD or a SPLIT alone, and only where it would else be done.
-    ensures memory { OnErr result (MayWantMemory guide.old (R.rows rows.old) edit.now) }
-    ensures err { OnErr result (guide.new ≡ record guide.old { spare = guide.new.spare }) }
-    ensures rows_err { OnErr result (R.rows rows.new ≡ R.rows rows.old) }
+    ensures applied { IsApplied edit.now guide.old guide.new (R.rows rows.old) (R.rows rows.new) result }
     ensures sound { AreSound guide.old (R.rows rows.old) → AreSound guide.new (R.rows rows.new) }
 {
-    let verdict = carry_out(guide, rows, edit);
-    // With it comes what every guide keeps.
-    let _ = guide.next_id();
-    verdict
+    carry_out(guide, rows, edit)
 }

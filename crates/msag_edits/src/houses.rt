@@ -1,12 +1,13 @@
 //! Ranges with a difference added, and the ends of the parts of a split.
-ghost use Rattle.std.specs.Prelude.{◌≡◌, ◌≤◌, ◌&&◌};
+ghost use Rattle.std.specs.Prelude.{◌≡◌, ◌+◌, ◌≤◌, ◌&&◌};
 ghost use Rattle.ali_base.specs.Steps.{when};
+ghost use Rattle.msag_ranges.specs.HeldNumbers.{greatest_to, least_from};
 ghost use Rattle.number_table.specs.HouseArithmetic.{stays_house};
-ghost use Rattle.msag_edits.specs.HouseArithmetic.{is_odd, is_one_parity, last_to, first_above};
+ghost use Rattle.msag_edits.specs.HouseArithmetic.{is_odd, is_one_parity};
 ghost use Rattle.msag_edits.specs.EditRules.{shifted, has_empty_part};
 
 use ali_base::{HIGHEST_HOUSE, House, Parity};
-use msag_ranges::{Range, has_parity};
+use msag_ranges::{Range, greatest_to, least_from};
 use number_table::added;
 
 /// The range with the difference added to both ends; None where an end is then below 0 or above
@@ -35,26 +36,17 @@ pub(crate) fn swaps_parity(parity: Parity, by: i32) -> bool
     parity != Parity::Both && by.unsigned_abs() % 2 == 1
 }
 
-/// The greatest number up to `n` that has the parity, where 0 has it or `n` is not 0.
-pub(crate) fn last_to(parity: Parity, n: House) -> House
-    ensures { result ≡ last_to parity n }
+/// The greatest number up to `n` that has the parity; 0 where none has it.
+pub(crate) fn greatest_up_to(parity: Parity, n: House) -> House
+    ensures { result ≡ greatest_to parity n }
 {
-    if has_parity(parity, n.number()) {
-        n
-    } else {
-        House::new(n.number().saturating_sub(1)).unwrap()
-    }
+    House::new(greatest_to(parity, n.number())).unwrap()
 }
 
 /// The least number above `n` that has the parity.
-pub(crate) fn first_above(parity: Parity, n: House) -> House
-    requires { first_above parity n ≤ HIGHEST_HOUSE }
-    ensures { result ≡ first_above parity n }
+pub(crate) fn least_above(parity: Parity, n: House) -> House
+    requires { least_from parity (n + 1) ≤ HIGHEST_HOUSE }
+    ensures { result ≡ least_from parity (n + 1) }
 {
-    let next = n.number() + 1;
-    if has_parity(parity, next) {
-        House::new(next).unwrap()
-    } else {
-        House::new(next + 1).unwrap()
-    }
+    House::new(least_from(parity, n.number() + 1)).unwrap()
 }

@@ -1,13 +1,12 @@
 //! RENUMBER: adds a difference to the ends of a range and to the house numbers in it.
-ghost use Rattle.std.specs.Prelude.{◌≡◌, ◌≢◌};
-ghost use Rattle.msag_edits.specs.EditRules.{renumber_verdict, renumber_act};
-ghost use Rattle.number_table.specs.HeldRows.{AreChanged};
+ghost use Rattle.msag_edits.specs.Edits.{IsApplied};
 
 use crate::edit_verdict::EditVerdict;
 use crate::houses::{shifted, swaps_parity};
 use crate::live_range::live_range;
 use msag_ranges::Guide;
 use number_table::RowMover;
+use office_entry::Edit;
 
 /// Adds `by` to both ends of the range of this id, and to the house number of each row that it holds.
 pub(crate) fn renumber<R: RowMover>(
@@ -16,11 +15,7 @@ pub(crate) fn renumber<R: RowMover>(
     id: u32,
     by: i32,
 ) -> EditVerdict
-    ensures verdict { result ≡ renumber_verdict guide.old (R.rows rows.old) id by }
-    ensures ranges { result.code ≡ 0 → guide.new ≡ record guide.old { ranges = (renumber_act guide.old id by).ranges; spare = guide.new.spare } }
-    ensures rows { result.code ≡ 0 → AreChanged (renumber_act guide.old id by).row (R.rows rows.old) (R.rows rows.new) }
-    ensures refused { result.code ≢ 0 → guide.new ≡ guide.old }
-    ensures rows_refused { result.code ≢ 0 → R.rows rows.new ≡ R.rows rows.old }
+    ensures { IsApplied (Edit.Renumber id by) guide.old guide.new (R.rows rows.old) (R.rows rows.new) (Ok result) }
 {
     let Some(range) = live_range(guide, id) else {
         return EditVerdict::refused(501);

@@ -5,20 +5,13 @@ use Rattle.std.specs.List.{list_any, range_with_len}
 use Rattle.std.proofs.lemmas.List.Folds.{Any-from_list_any, list_any-from_Any}
 use Rattle.std.proofs.lemmas.List.FromFn.{length-range_with_len, get_or-range_with_len}
 use Rattle.std.proofs.lemmas.Bool.Decides.{nat_tests}
+use Rattle.std.proofs.lemmas.Bool.{and_parts, and_from}
 use Rattle.ali_base.specs.StreetKey.{same_key}
 use Rattle.msag_ranges.specs.StreetGuide.{has_parity, is_held, share_number, overlaps, Overlap}
 use Rattle.ali_base.specs.declared.parity.Parity.{Parity}
 use Rattle.msag_ranges.specs.declared.range.Range.{Range}
 use Rattle.msag_ranges.specs.HeldNumbers.{IsLeastFrom}
 use Rattle.msag_ranges.proofs.Streets.{same_key-same, same_key-refl}
-
-pub both : (a b : Bool) → (a && b) ≡ true → (a ≡ true) × (b ≡ true)
-both true b h = (refl, h)
-both false b h = absurd cc
-
-pub and-true : (a b : Bool) → a ≡ true → b ≡ true → (a && b) ≡ true
-and-true true b h k = k
-and-true false b h k = h
 
 -- a test that passes at some number of a span
 found : (p : ℕ → Bool) (a n : ℕ) → list_any p (range_with_len a n) ≡ true → (k : ℕ) × (a ≤ k) × (k < a + n) × (p k ≡ true)
@@ -36,45 +29,45 @@ there p a n k low high h =
 -- a range's numbers
 held-parts : (r : Range) (n : ℕ) → is_held r n ≡ true → (r.low ≤ n) × (n ≤ r.high) × (has_parity r.parity n ≡ true)
 held-parts r n h =
-    let w = both _ _ h in
-    let v = both (nat_le r.low n) (nat_le n r.high) w.0 in
+    let w = and_parts _ _ h in
+    let v = and_parts (nat_le r.low n) (nat_le n r.high) w.0 in
     (grind (arith, nat_tests), grind (arith, nat_tests), w.1)
 
 held-from : (r : Range) (n : ℕ) → r.low ≤ n → n ≤ r.high → has_parity r.parity n ≡ true → is_held r n ≡ true
 held-from r n low high parity =
     let l : nat_le r.low n ≡ true = grind (arith, nat_tests) in
     let h : nat_le n r.high ≡ true = grind (arith, nat_tests) in
-    and-true _ _ (and-true _ _ l h) parity
+    and_from _ _ (and_from _ _ l h) parity
 
 -- some number is held by both exactly where one is found
 pub share_number-found : (r s : Range) → share_number r s ≡ true → (n : ℕ) × (is_held r n ≡ true) × (is_held s n ≡ true)
 unfolding share_number
 share_number-found r s h =
     let w = found (λ n. is_held r n && is_held s n) r.low (r.high + 1 - r.low) h in
-    let v = both _ _ w.3 in
+    let v = and_parts _ _ w.3 in
     (w.0, v.0, v.1)
 
 pub share_number-there : (r s : Range) (n : ℕ) → is_held r n ≡ true → is_held s n ≡ true → share_number r s ≡ true
 unfolding share_number
 share_number-there r s n h k =
     let w = held-parts r n h in
-    there (λ n. is_held r n && is_held s n) r.low (r.high + 1 - r.low) n w.0 (omega (arith, w.0, w.1)) (and-true _ _ h k)
+    there (λ n. is_held r n && is_held s n) r.low (r.high + 1 - r.low) n w.0 (omega (arith, w.0, w.1)) (and_from _ _ h k)
 
 -- the test of overlap says what overlap is
 pub overlaps-found : (r s : Range) → overlaps r s ≡ true → Overlap r s
 overlaps-found r s h =
-    let w = both _ _ h in
+    let w = and_parts _ _ h in
     let v = share_number-found r s w.1 in
     let same : r.key ≡ s.key = same_key-same r.key s.key w.0 in
-    (s.key, v.0, and-true _ _ w.0 v.1, and-true _ _ (same_key-refl s.key) v.2)
+    (s.key, v.0, and_from _ _ w.0 v.1, and_from _ _ (same_key-refl s.key) v.2)
 
 pub overlaps-there : (r s : Range) → Overlap r s → overlaps r s ≡ true
 overlaps-there r s h =
-    let w = both _ _ h.2 in
-    let v = both _ _ h.3 in
+    let w = and_parts _ _ h.2 in
+    let v = and_parts _ _ h.3 in
     let one : r.key ≡ h.0 = same_key-same r.key h.0 w.0 in
     let other : s.key ≡ h.0 = same_key-same s.key h.0 v.0 in
-    and-true _ _ (subst (λ k. same_key r.key k ≡ true) (sym other) w.0) (share_number-there r s h.1 w.1 v.1)
+    and_from _ _ (subst (λ k. same_key r.key k ≡ true) (sym other) w.0) (share_number-there r s h.1 w.1 v.1)
 
 -- what a test that computes overlap says
 pub overlaps-says : (r s : Range) (b : Bool) → b ≡ overlaps r s → (b ≡ true → Overlap r s) × (Overlap r s → b ≡ true)
@@ -92,7 +85,7 @@ first-to r s p m agree least h =
     let w = share_number-found r s h in
     let a = held-parts r w.0 w.1 in
     let b = held-parts s w.0 w.2 in
-    let has : has_parity p w.0 ≡ true = sym (agree w.0) ∙ and-true _ _ a.2 b.2 in
+    let has : has_parity p w.0 ≡ true = sym (agree w.0) ∙ and_from _ _ a.2 b.2 in
     let below : m ≤ w.0 = least.least w.0 (omega arith) has in
     omega arith
 
@@ -101,7 +94,7 @@ first-from : (r s : Range) (p : Parity) (m : ℕ)
     → IsLeastFrom p (max r.low s.low) m
     → m ≤ min r.high s.high → share_number r s ≡ true
 first-from r s p m agree least h =
-    let w = both _ _ (agree m ∙ least.has) in
+    let w = and_parts _ _ (agree m ∙ least.has) in
     let low : max r.low s.low ≤ m = least.from in
     share_number-there r s m (held-from r m (omega arith) (omega arith) w.0) (held-from s m (omega arith) (omega arith) w.1)
 
@@ -123,6 +116,6 @@ share_number-none r s never = false-from (share_number r s) (λ h.
     let w = share_number-found r s h in
     let a = held-parts r w.0 w.1 in
     let b = held-parts s w.0 w.2 in
-    let yes : (has_parity r.parity w.0 && has_parity s.parity w.0) ≡ true = and-true _ _ a.2 b.2 in
+    let yes : (has_parity r.parity w.0 && has_parity s.parity w.0) ≡ true = and_from _ _ a.2 b.2 in
     let no : (has_parity r.parity w.0 && has_parity s.parity w.0) ≡ false = never w.0 in
     cc)

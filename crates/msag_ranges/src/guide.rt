@@ -88,7 +88,8 @@ impl Guide {
 
     /// The range of this id.
     pub fn get(&self, id: u32) -> Option<&Range>
-        ensures { option_copied result ≡ range_of self.now.ranges id }
+        ensures value { option_copied result ≡ range_of self.now.ranges id }
+        ensures sound { IsSoundGuide self.now.ranges self.now.next self.now.limit }
     {
         self.ranges.iter().find(|r| r.id == id)
     }
@@ -135,6 +136,7 @@ impl Guide {
           spare = self.new.spare;
         } }
         ensures spare { self.old.spare ≤ self.new.spare + 1 }
+        ensures sound { IsSoundGuide self.new.ranges self.new.next self.new.limit }
     {
         prove!(high.number() <= HIGHEST_HOUSE);
         let id = self.next_id;
@@ -155,6 +157,7 @@ impl Guide {
         requires { IsSome (range_of self.old.ranges id) }
         ensures after { self.new ≡ record self.old { ranges = without self.old.ranges id; spare = self.new.spare } }
         ensures spare { self.old.spare ≤ self.new.spare }
+        ensures sound { IsSoundGuide self.new.ranges self.new.next self.new.limit }
     {
         self.ranges.retain(|r| r.id != id);
     }
@@ -168,6 +171,7 @@ impl Guide {
             (λ r. MayStand self.old.ranges (moved r low high esn) (Some id)) }
         ensures after { self.new ≡ record self.old { ranges = with_moved self.old.ranges id low high esn; spare = self.new.spare } }
         ensures spare { self.old.spare ≤ self.new.spare }
+        ensures sound { IsSoundGuide self.new.ranges self.new.next self.new.limit }
     {
         prove!(high.number() <= HIGHEST_HOUSE);
         if let Some(at) = self.place_of(id) {

@@ -2,12 +2,12 @@
 use Rattle.std.proofs.Common.{◌≡◌, ℕ, ℤ, ◌≤◌, Bool, true, false, nat_le, pos, negsuc, List, Some, None, refl, ap, sym, ◌∙◌, subst, arith, IsSome}
 use Rattle.std.specs.Option.{option_map_or}
 use Rattle.std.proofs.lemmas.Bool.Decides.{nat_tests}
+use Rattle.std.proofs.lemmas.Bool.{and_parts, and_from}
 use Rattle.ali_base.specs.Steps.{when}
 use Rattle.msag_ranges.specs.StreetGuide.{has_parity, holds, is_held}
 use Rattle.ali_base.specs.StreetKey.{same_key}
 use Rattle.msag_ranges.specs.declared.range.Range.{Range}
 use Rattle.ali_record.specs.Address.{record_key}
-use Rattle.msag_ranges.proofs.Overlapping.{both, and-true}
 use Rattle.number_table.specs.HouseArithmetic.{stays_house}
 use Rattle.number_table.specs.HeldRows.{record_house, holds_record}
 
@@ -17,15 +17,15 @@ Holds r n = (r.low ≤ n) × (n ≤ r.high) × (has_parity r.parity n ≡ true)
 
 pub held-parts : (r : Range) (n : ℕ) → is_held r n ≡ true → Holds r n
 held-parts r n h =
-    let w = both _ _ h in
-    let v = both (nat_le r.low n) (nat_le n r.high) w.0 in
+    let w = and_parts _ _ h in
+    let v = and_parts (nat_le r.low n) (nat_le n r.high) w.0 in
     (grind (arith, nat_tests), grind (arith, nat_tests), w.1)
 
 pub held-from : (r : Range) (n : ℕ) → Holds r n → is_held r n ≡ true
 held-from r n h =
     let l : nat_le r.low n ≡ true = grind (arith, nat_tests) in
     let u : nat_le n r.high ≡ true = grind (arith, nat_tests) in
-    and-true _ _ (and-true _ _ l u) h.2
+    and_from _ _ (and_from _ _ l u) h.2
 
 -- what stays a house number
 pub stays-between : (low n high : ℕ) (by : ℤ) → low ≤ n → n ≤ high → stays_house low by ≡ true → stays_house high by ≡ true → stays_house n by ≡ true
@@ -51,7 +51,7 @@ pub held-stays : (r : Range) (b : List ℕ) (n : ℕ) (by : ℤ) → holds_recor
 held-stays r b n by h house low high =
     let a = held-address r b h in
     let one : a.0 ≡ n = let e : Some a.0 ≡ Some n = sym a.1 ∙ house in cc in
-    let w = held-parts r a.0 (both (same_key r.key (record_key b)) (is_held r a.0) a.2).1 in
+    let w = held-parts r a.0 (and_parts (same_key r.key (record_key b)) (is_held r a.0) a.2).1 in
     subst (λ (m : ℕ). stays_house m by ≡ true) one (stays-between r.low a.0 r.high by w.0 w.1 low high)
 
 pub when-there : {X : Type 0} (b : Bool) (x : X) → b ≡ true → IsSome (when b x)

@@ -3,10 +3,10 @@ use Rattle.std.proofs.Common.{◌≡◌, ◌≢◌, ℕ, ◌+◌, ◌≤◌, ◌
 use Rattle.std.proofs.lemmas.Bool.Decides.{nat_tests}
 use Rattle.msag_ranges.specs.StreetGuide.{StreetGuide}
 use Rattle.number_table.specs.NumberTable.{NumberTable}
-use Rattle.number_table.specs.HeldRows.{AreChanged, changed}
+use Rattle.number_table.specs.HeldRows.{changed}
 use Rattle.number_table.proofs.ChangedRows.{changed-only}
 use Rattle.msag_edits.specs.EditRules.{EditAct}
-use Rattle.msag_edits.specs.Edits.{edit_verdict, edit_act}
+use Rattle.msag_edits.specs.Edits.{edit_verdict, edit_act, IsAnswered}
 use Rattle.msag_edits.specs.EditedTables.{guide_after, rows_after}
 use Rattle.msag_edits.specs.declared.edit_verdict.EditVerdict.{EditVerdict}
 use Rattle.msag_edits.proofs.EditedGuides.{next_after}
@@ -38,44 +38,38 @@ same_act g (SetEsn id esn) = refl
 test_of : (n : ℕ) → ((n == 0) ≡ true → n ≡ 0) × ((n == 0) ≡ false → n ≢ 0)
 test_of n = (λ t. grind (arith, nat_tests), λ t e. grind (arith, nat_tests))
 
--- what is said of a guide and of rows that an edit left, where its code is 0 and where it is not
-pub record IsLeft (g h : StreetGuide) (rows later : NumberTable) (edit : Edit) (code : ℕ) : Type 0 where
-  pub guide : code ≡ 0 → h ≡ record g { ranges = (edit_act g edit).ranges; next = (edit_act g edit).next; spare = h.spare }
-  pub changes : code ≡ 0 → AreChanged (edit_act g edit).row rows later
-  pub same_guide : code ≢ 0 → h ≡ record g { spare = h.spare }
-  pub same_rows : code ≢ 0 → later ≡ rows
-
-module _ (g h : StreetGuide) (rows later : NumberTable) (edit : Edit) (code : ℕ) (left : IsLeft g h rows later edit code) where
-  left_guide : without_spare h ≡ guide_after (without_spare g) edit code
+-- guide and rows that an edit left
+module _ (edit : Edit) (g h : StreetGuide) (rows later : NumberTable) (v : EditVerdict) (left : IsAnswered edit g h rows later v) where
+  left_guide : without_spare h ≡ guide_after (without_spare g) edit v.code
   left_guide =
-      elim (code == 0) as (λ b. (code == 0) ≡ b → without_spare h ≡ cond b (record g { ranges = (edit_act (without_spare g) edit).ranges; next = (edit_act (without_spare g) edit).next; spare = 0 }) (without_spare g)) [
-        | true ↦ λ t. ap without_spare (left.guide ((test_of code).0 t)) ∙ ap (λ (a : EditAct). record g { ranges = a.ranges; next = a.next; spare = 0 }) (sym (same_act g edit))
-        | false ↦ λ t. ap without_spare (left.same_guide ((test_of code).1 t))
+      elim (v.code == 0) as (λ b. (v.code == 0) ≡ b → without_spare h ≡ cond b (record g { ranges = (edit_act (without_spare g) edit).ranges; next = (edit_act (without_spare g) edit).next; spare = 0 }) (without_spare g)) [
+        | true ↦ λ t. ap without_spare (left.done ((test_of v.code).0 t)).guide ∙ ap (λ (a : EditAct). record g { ranges = a.ranges; next = a.next; spare = 0 }) (sym (same_act g edit))
+        | false ↦ λ t. ap without_spare (left.refused ((test_of v.code).1 t)).guide
       ] refl
 
-  left_rows : later ≡ rows_after (without_spare g) rows edit code
+  left_rows : later ≡ rows_after (without_spare g) rows edit v.code
   left_rows =
-      elim (code == 0) as (λ b. (code == 0) ≡ b → later ≡ cond b (changed (edit_act (without_spare g) edit).row rows) rows) [
-        | true ↦ λ t. changed-only (edit_act g edit).row rows later (left.changes ((test_of code).0 t)) ∙ ap (λ (a : EditAct). changed a.row rows) (sym (same_act g edit))
-        | false ↦ λ t. left.same_rows ((test_of code).1 t)
+      elim (v.code == 0) as (λ b. (v.code == 0) ≡ b → later ≡ cond b (changed (edit_act (without_spare g) edit).row rows) rows) [
+        | true ↦ λ t. changed-only (edit_act g edit).row rows later (left.done ((test_of v.code).0 t)).rows ∙ ap (λ (a : EditAct). changed a.row rows) (sym (same_act g edit))
+        | false ↦ λ t. (left.refused ((test_of v.code).1 t)).rows
       ] refl
 
   -- one range at most is new
   pub left_next : h.next ≤ g.next + 1
   left_next =
-      elim (code == 0) as (λ b. (code == 0) ≡ b → h.next ≤ g.next + 1) [
-        | true ↦ λ t. omega (arith, ap (λ (x : StreetGuide). x.next) (left.guide ((test_of code).0 t)), next_after g edit)
-        | false ↦ λ t. omega (arith, ap (λ (x : StreetGuide). x.next) (left.same_guide ((test_of code).1 t)))
+      elim (v.code == 0) as (λ b. (v.code == 0) ≡ b → h.next ≤ g.next + 1) [
+        | true ↦ λ t. omega (arith, ap (λ (x : StreetGuide). x.next) (left.done ((test_of v.code).0 t)).guide, next_after g edit)
+        | false ↦ λ t. omega (arith, ap (λ (x : StreetGuide). x.next) (left.refused ((test_of v.code).1 t)).guide)
       ] refl
 
 -- an edit that was carried out and noted is booked
 pub edit_booked : (g h : StreetGuide) (rows later : NumberTable) (most entries : ℕ) (cycles : CyclesState) (edits noted : List (Option EditRecord)) (editor serial : ℕ) (edit : Edit) (digest : List ℕ) (v : EditVerdict)
-    → v ≡ edit_verdict g rows edit → IsLeft g h rows later edit v.code → digest ≡ edit_digest edit → noted ≡ after_serial edits editor serial digest v.code v.detail
+    → IsAnswered edit g h rows later v → digest ≡ edit_digest edit → noted ≡ after_serial edits editor serial digest v.code v.detail
     → office_of later most h cycles noted (entries + 1) ≡ with_entry (office_of rows most g cycles edits entries) (Edited editor serial edit)
 unfolding after
-edit_booked g h rows later most entries cycles edits noted editor serial edit digest v judged left of_edit note =
-    let verdict : v ≡ edit_verdict (without_spare g) rows edit = judged ∙ sym (same_verdict g rows edit) in
-    let new_guide = left_guide g h rows later edit v.code left ∙ ap (λ (w : EditVerdict). guide_after (without_spare g) edit w.code) verdict in
-    let new_rows = left_rows g h rows later edit v.code left ∙ ap (λ (w : EditVerdict). rows_after (without_spare g) rows edit w.code) verdict in
+edit_booked g h rows later most entries cycles edits noted editor serial edit digest v left of_edit note =
+    let verdict : v ≡ edit_verdict (without_spare g) rows edit = left.verdict ∙ sym (same_verdict g rows edit) in
+    let new_guide = left_guide edit g h rows later v left ∙ ap (λ (w : EditVerdict). guide_after (without_spare g) edit w.code) verdict in
+    let new_rows = left_rows edit g h rows later v left ∙ ap (λ (w : EditVerdict). rows_after (without_spare g) rows edit w.code) verdict in
     let new_edits = note ∙ ap (λ d. after_serial edits editor serial d v.code v.detail) of_edit ∙ ap (λ (w : EditVerdict). after_serial edits editor serial (edit_digest edit) w.code w.detail) verdict in
     λ i. record { state = record { table = new_rows i; most_numbers = most; guide = new_guide i; cycles = cycles; edits = new_edits i }; entries = entries + 1 }

@@ -5,7 +5,8 @@ use Rattle.msag_ranges.specs.StreetGuide.{StreetGuide}
 use Rattle.number_table.specs.NumberTable.{NumberTable, no_numbers}
 use Rattle.sequence_once.specs.KeptCycles.{CyclesState, after_open, after_note}
 use Rattle.sequence_once.specs.SerialStanding.{EditRecord, no_edits}
-use Rattle.msag_edits.specs.Edits.{edit_verdict, edit_act}
+use Rattle.msag_edits.specs.Edits.{edit_verdict, edit_act, IsAnswered}
+use Rattle.msag_edits.specs.declared.edit_verdict.EditVerdict.{EditVerdict}
 use Rattle.msag_edits.specs.GuideSoundness.{AreSound}
 use Rattle.office_entry.specs.declared.edit.Edit.{Edit as GuideEdit}
 use Rattle.office_entry.specs.declared.entry.Entry.{Entry}
@@ -15,7 +16,7 @@ use Rattle.office_state.specs.OfficeState.{State, OfficeState, office_of, withou
 use Rattle.office_state.specs.Soundness.{IsSoundOffice}
 use Rattle.office_state.specs.Verdict.{after}
 use Rattle.office_state.specs.History.{state}
-use Rattle.office_state.proofs.EditSteps.{IsLeft, left_next}
+use Rattle.office_state.proofs.EditSteps.{left_next}
 use Rattle.office_state.proofs.SoundHistories.{sound_nothing}
 
 -- the room of a guide is nothing to its soundness
@@ -46,9 +47,9 @@ pub sound_lined : (g : StreetGuide) (rows later : NumberTable) (most entries : �
 sound_lined g rows later most entries cycles edits old sound was = record { sound = sound_bare g later sound; ids = omega (arith, was.ids) }
 
 -- an edit keeps guide and rows sound, and makes one range at most
-pub sound_edited : (g h : StreetGuide) (rows later : NumberTable) (edit : GuideEdit) (code most entries : ℕ) (cycles : CyclesState) (edits : List (Option EditRecord)) → IsLeft g h rows later edit code
+pub sound_edited : (g h : StreetGuide) (rows later : NumberTable) (edit : GuideEdit) (v : EditVerdict) (most entries : ℕ) (cycles : CyclesState) (edits : List (Option EditRecord)) → IsAnswered edit g h rows later v
     → AreSound h later → g.next ≤ entries + 1 → IsSoundOffice (office_of later most h cycles edits (entries + 1))
-sound_edited g h rows later edit code most entries cycles edits left sound ids = record { sound = sound_bare h later sound; ids = omega (arith, ids, left_next g h rows later edit code left) }
+sound_edited g h rows later edit v most entries cycles edits left sound ids = record { sound = sound_bare h later sound; ids = omega (arith, ids, left_next edit g h rows later v left) }
 
 -- an entry leaves the limits
 limits_after : (s : State) (e : Entry) → limits_of (after s e) ≡ limits_of s

@@ -6,6 +6,7 @@ use Rattle.std.proofs.lemmas.Bool.Decides.{nat_tests}
 use Rattle.sequence_once.specs.KeptCycles.{CycleRecord, newest, is_finished, is_last_finished, IsRun, note_last}
 use Rattle.sequence_once.specs.CycleStanding.{last_number}
 use Rattle.sequence_once.proofs.Runs.{newest_more, rising}
+use Rattle.sequence_once.proofs.TooOldFiles.{first_lowest}
 
 -- the cycle with a number
 abbrev pub found : ℕ → List CycleRecord → Option CycleRecord
@@ -21,11 +22,6 @@ found_number cycle (x ∷ xs) j e = at (x.cycle == cycle) refl (λ f. found_numb
         let number : x.cycle ≡ cycle = grind (arith, nat_tests) in
         ap (λ (k : CycleRecord). k.cycle) (sym same) ∙ number
     at false t later = later (rw t at e)
-
--- the first cycle of a run is its lowest
-first_lowest : (x : CycleRecord) (rest : List CycleRecord) → IsRun (x ∷ rest) → x.cycle ≤ last_number (newest (x ∷ rest))
-first_lowest x [] run = omega arith
-first_lowest x (y ∷ rest) run = omega (arith, first_lowest y rest run.1, run.0.0, ap last_number (newest_more x y rest))
 
 -- the last cycle is found by its number
 pub found_newest : (xs : List CycleRecord) (k : CycleRecord) → IsRun xs → newest xs ≡ Some k → found k.cycle xs ≡ Some k

@@ -1,10 +1,10 @@
 -- The standing of a company's file after its opening and after each of its lines.
-use Rattle.std.proofs.Common.{◌≡◌, ℕ, ◌+◌, ◌<◌, ◌≤◌, ◌==◌, Bool, false, List, [], ◌∷◌, ◌++◌, length, Option, Some, Result, Ok, length-append, refl, ap, sym, ◌∙◌, subst, arith, if◌then◌else◌, option_map}
+use Rattle.std.proofs.Common.{◌≡◌, ℕ, ◌+◌, ◌<◌, ◌≤◌, ◌==◌, Bool, false, List, [], ◌∷◌, ◌++◌, length, Some, Result, Ok, length-append, refl, ap, sym, ◌∙◌, subst, arith, if◌then◌else◌, option_map}
 use Rattle.std.specs.Str.{bytes_eq}
 use Rattle.std.proofs.lemmas.Slice.Eq.{bytes_eq-Decides}
 use Rattle.std.proofs.lemmas.Bool.Decides.{nat_tests}
 use Rattle.sequence_once.specs.KeptCycles.{CycleRecord, CyclesState, IsSound, of_company, last_of, is_finished, is_last_finished, opened, after_open, after_note, count_of}
-use Rattle.sequence_once.specs.CycleStanding.{repeated, standing_of}
+use Rattle.sequence_once.specs.CycleStanding.{standing_of}
 use Rattle.sequence_once.specs.declared.standing.Standing.{Standing}
 use Rattle.sequence_once.specs.declared.standing.Standing.TheVariants.{New, Resume, Complete}
 use Rattle.sequence_once.specs.declared.standing.CycleFault.{CycleFault}

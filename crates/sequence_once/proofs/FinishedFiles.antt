@@ -1,5 +1,5 @@
 -- A finished cycle is as it is for as long as it is kept, and its file complete.
-use Rattle.std.proofs.Common.{◌≡◌, ℕ, ◌+◌, ◌-◌, ◌≤◌, ◌==◌, true, false, List, [], ◌∷◌, ◌++◌, length, Some, None, IsSome, Option, Ok, refl, ap, sym, ◌∙◌, subst, arith, option_map}
+use Rattle.std.proofs.Common.{◌≡◌, ℕ, ◌+◌, ◌-◌, ◌≤◌, ◌==◌, true, false, List, [], ◌∷◌, ◌++◌, length, Some, None, IsSome, Option, Ok, refl, ap, sym, ◌∙◌, arith, option_map}
 use Rattle.std.proofs.lemmas.Bool.Decides.{nat_tests}
 use Rattle.sequence_once.specs.KeptCycles.{CycleRecord, CyclesState, IsSound, of_company, newest, last_of, is_finished, is_last_finished, opened, after_open, last_eight, note_last, after_note, codes_of}
 use Rattle.sequence_once.specs.CycleStanding.{last_number, repeated, standing_of}

@@ -1,5 +1,5 @@
 -- What the standing of a company's file says of its kept cycles.
-use Rattle.std.proofs.Common.{◌≡◌, ℕ, ◌+◌, ◌<◌, ◌≤◌, ◌==◌, ◌&&◌, ◌||◌, not, nat_lt, Bool, true, false, List, length, Option, Some, None, Result, Ok, Err, refl, ap, arith, if◌then◌else◌, option_map, ◌⊎◌, inl, inr, sym, ◌∙◌}
+use Rattle.std.proofs.Common.{◌≡◌, ℕ, ◌+◌, ◌≤◌, ◌==◌, ◌&&◌, Bool, true, false, List, length, Option, Some, None, Result, Ok, Err, refl, ap, arith, if◌then◌else◌, option_map, sym, ◌∙◌}
 use Rattle.std.specs.Str.{bytes_eq}
 use Rattle.std.proofs.lemmas.Slice.Eq.{bytes_eq-Decides}
 use Rattle.std.proofs.lemmas.Bool.Decides.{nat_tests}
@@ -13,6 +13,7 @@ use Rattle.sequence_once.specs.declared.standing.CycleFault.TheVariants.{Gap, Di
 use Rattle.sequence_once.proofs.CycleRuns.{found, found_newest, newest_holds}
 use Rattle.sequence_once.proofs.Runs.{HasRoom}
 use Rattle.sequence_once.proofs.Sound.{new_means}
+use Rattle.sequence_once.proofs.TooOldFiles.{not_above_last, not_next, not_beyond}
 
 next_means : (cycle last : ℕ) (finished : Bool) → ((cycle == last + 1) && finished) ≡ true → (cycle ≡ last + 1) × (finished ≡ true)
 next_means cycle last true e = (grind (arith, nat_tests), refl)
@@ -28,19 +29,6 @@ kept_only true true beyond l g rest r old e = cc
 kept_only true false beyond l g rest r old e = absurd (old cc)
 kept_only false full true l g rest r old e = cc
 kept_only false full false l g rest r old e = (refl, refl, e)
-
--- neither the next cycle nor beyond it: not above the last
-not_above : (cycle last : ℕ) (finished : Bool) → ((cycle == last + 1) && finished) ≡ false → (nat_lt (last + 1) cycle || (not finished && nat_lt last cycle)) ≡ false → cycle ≤ last
-not_above cycle last true e f = grind (arith, nat_tests)
-not_above cycle last false e f = grind (arith, nat_tests)
-
-not_next : (cycle last : ℕ) (finished : Bool) → cycle ≤ last → ((cycle == last + 1) && finished) ≡ false
-not_next cycle last true h = grind (arith, nat_tests)
-not_next cycle last false h = grind (arith, nat_tests)
-
-not_beyond : (cycle last : ℕ) (finished : Bool) → cycle ≤ last → (nat_lt (last + 1) cycle || (not finished && nat_lt last cycle)) ≡ false
-not_beyond cycle last true h = grind (arith, nat_tests)
-not_beyond cycle last false h = grind (arith, nat_tests)
 
 -- the kept cycle of a file that is not new
 pub record KeptFile (s : CyclesState) (company : List ℕ) (cycle : ℕ) (digest : List ℕ) (r : Standing) : Type 0 where
@@ -59,7 +47,7 @@ unfolding standing_of
 kept_file s company cycle digest r old e =
     let last = last_of company s.kept in
     let facts = kept_only (is_next last cycle) (is_full s company) (is_beyond last cycle) _ _ _ r old e in
-    kept_there s company cycle digest r (found cycle (of_company company s.kept)) _ refl (not_above cycle (last_number last) (is_last_finished last) facts.0 facts.1) facts.2
+    kept_there s company cycle digest r (found cycle (of_company company s.kept)) _ refl (not_above_last cycle (last_number last) (is_last_finished last) facts.0 facts.1) facts.2
 
 -- the digest is the kept one, and the cycle is finished
 finished_means : (same done : Bool) (n : ℕ) (kept sent : List ℕ) → (if same then (if done then Ok Complete else Ok (Resume n)) else Err (Differs kept sent)) ≡ Ok Complete → (same ≡ true) × (done ≡ true)

@@ -1,5 +1,5 @@
 -- What holds of all kept cycles holds after an opening and after a line.
-use Rattle.std.proofs.Common.{◌≡◌, ℕ, ◌+◌, ◌-◌, ◌<◌, ◌≤◌, ◌==◌, Bool, true, false, ◌&&◌, Option, Result, List, [], ◌∷◌, ◌++◌, length, Some, None, Ok, Err, length-append, length-drop, refl, arith, if◌then◌else◌}
+use Rattle.std.proofs.Common.{◌≡◌, ℕ, ◌+◌, ◌-◌, ◌<◌, ◌≤◌, ◌==◌, Bool, true, false, Option, Result, List, [], ◌∷◌, ◌++◌, length, Some, None, Ok, Err, length-append, length-drop, refl, arith, if◌then◌else◌}
 use Rattle.std.specs.List.{All}
 use Rattle.std.specs.List.Sorted.{IsStrictlySortedBy}
 use Rattle.std.proofs.lemmas.List.Elements.{All-append, All-filter, All-drop, All-push}
@@ -13,6 +13,7 @@ use Rattle.sequence_once.specs.declared.standing.CycleFault.{CycleFault}
 use Rattle.sequence_once.specs.declared.standing.CycleFault.TheVariants.{Gap, Differs, CompaniesFull}
 use Rattle.sequence_once.proofs.Lists.{each_append}
 use Rattle.std.proofs.lemmas.Cmp.{tied_itself, nat_list_cmp_total}
+use Rattle.std.proofs.lemmas.Bool.{and_parts}
 use Rattle.sequence_once.proofs.Companies.{AllOf, all_of_company, of_with, sorted_with, known_some}
 use Rattle.sequence_once.proofs.Runs.{HasRoom, run_push, run_drop, each_drop, last_eight_few, sorted_run, note_last_length, note_last_own, run_note, counts_note}
 use Rattle.sequence_once.specs.declared.cycles.TheConstants.{KEPT_CYCLES}
@@ -36,11 +37,6 @@ new_only false full false l g rest never e = absurd (never e)
 pub new_means : (s : CyclesState) (c : List ℕ) (cycle : ℕ) (digest : List ℕ) → standing_of s c cycle digest ≡ Ok New → (is_next (last_of c s.kept) cycle ≡ true) × (is_full s c ≡ false)
 unfolding standing_of
 new_means s c cycle digest e = new_only _ _ _ _ _ _ (not_new _ _ digest) e
-
-both : (a b : Bool) → (a && b) ≡ true → (a ≡ true) × (b ≡ true)
-both true true e = (refl, refl)
-both true false e = cc
-both false b e = cc
 
 -- a company that is not full has room for one that is new
 pub room_for : (s : CyclesState) (c : List ℕ) → IsSound s → is_full s c ≡ false → known_companies s.kept + (if length (of_company c s.kept) == 0 then 1 else 0) ≤ s.limit
@@ -84,7 +80,7 @@ module _ (s : CyclesState) (sound : IsSound s) (c : List ℕ) where
       let k = opened c cycle count digest in
       let mine = of_company c s.kept in
       let facts = new_means s c cycle digest new in
-      let next = both _ _ facts.0 in
+      let next = and_parts _ _ facts.0 in
       sound_replaced s sound c (last_eight (mine ++ k ∷ []))
       (each_drop _ _ _ (own_push k refl))
       (run_drop _ _ (run_push mine k (sound.runs c) next.1 (same_number _ _ next.0)))

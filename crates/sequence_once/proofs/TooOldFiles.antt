@@ -21,7 +21,7 @@ find_none cycle (x ∷ xs) h =
     rw differs (find_none cycle xs h.1)
 
 -- the first cycle of a run is its lowest
-first_lowest : (x : CycleRecord) (rest : List CycleRecord) → IsRun (x ∷ rest) → x.cycle ≤ last_number (newest (x ∷ rest))
+pub first_lowest : (x : CycleRecord) (rest : List CycleRecord) → IsRun (x ∷ rest) → x.cycle ≤ last_number (newest (x ∷ rest))
 first_lowest x [] run = omega arith
 first_lowest x (y ∷ rest) run = omega (arith, first_lowest y rest run.1, run.0.0, ap last_number (newest_more x y rest))
 
@@ -55,15 +55,15 @@ not_kept (Some k) oldest digest e = absurd (never (bytes_eq k.digest digest) (is
     never false done e = cc
 
 -- neither the next cycle nor beyond it: not above the last
-not_above_last : (cycle last : ℕ) (finished : Bool) → ((cycle == last + 1) && finished) ≡ false → (nat_lt (last + 1) cycle || (not finished && nat_lt last cycle)) ≡ false → cycle ≤ last
+pub not_above_last : (cycle last : ℕ) (finished : Bool) → ((cycle == last + 1) && finished) ≡ false → (nat_lt (last + 1) cycle || (not finished && nat_lt last cycle)) ≡ false → cycle ≤ last
 not_above_last cycle last true e f = grind (arith, nat_tests)
 not_above_last cycle last false e f = grind (arith, nat_tests)
 
-not_next : (cycle last : ℕ) (finished : Bool) → cycle ≤ last → ((cycle == last + 1) && finished) ≡ false
+pub not_next : (cycle last : ℕ) (finished : Bool) → cycle ≤ last → ((cycle == last + 1) && finished) ≡ false
 not_next cycle last true h = grind (arith, nat_tests)
 not_next cycle last false h = grind (arith, nat_tests)
 
-not_beyond : (cycle last : ℕ) (finished : Bool) → cycle ≤ last → (nat_lt (last + 1) cycle || (not finished && nat_lt last cycle)) ≡ false
+pub not_beyond : (cycle last : ℕ) (finished : Bool) → cycle ≤ last → (nat_lt (last + 1) cycle || (not finished && nat_lt last cycle)) ≡ false
 not_beyond cycle last true h = grind (arith, nat_tests)
 not_beyond cycle last false h = grind (arith, nat_tests)
 

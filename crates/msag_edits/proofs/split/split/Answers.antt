@@ -1,7 +1,7 @@
 use Rattle.std.proofs.Common.{◌≡◌, false, Some, None, subst, sym, ◌∙◌, ap, List, ℕ}
 use Rattle.msag_ranges.specs.StreetGuide.{StreetGuide, range_of, MayStand, with_moved, new_range}
+use Rattle.msag_ranges.specs.HeldNumbers.{greatest_to}
 use Rattle.msag_ranges.specs.declared.range.Range.{Range}
-use Rattle.msag_edits.specs.HouseArithmetic.{last_to}
 use Rattle.msag_edits.specs.EditRules.{has_empty_part}
 use Rattle.msag_edits.proofs.Ranges.{may_stand-lower, may_stand-upper, upper-limit, set-asks-at, both_parts}
 use Rattle.msag_edits.proofs.split.split.Goals as goal
@@ -17,10 +17,10 @@ set-requires-clause-stands g c =
     let w = both_parts r at parts in
     let stands = may_stand-lower old.ranges old.next old.limit id at r c.live_range.ensures.sound found w.0 w.1 in
     let same : c.ready.new.self.ranges ≡ old.ranges = ap (λ (s : StreetGuide). s.ranges) c.ready.ensures.kept in
-    set-asks-at old.ranges c.ready.new.self.ranges id (last_to r.parity at) c.last_to.result r same c.last_to.ensures found stands
+    set-asks-at old.ranges c.ready.new.self.ranges id (greatest_to r.parity at) c.greatest_up_to.result r same c.greatest_up_to.ensures found stands
 
-pub first_above-low-requires : goal.first_above-low-requires
-first_above-low-requires g c =
+pub least_above-low-requires : goal.least_above-low-requires
+least_above-low-requires g c =
     let r = c.in-Some.range in
     let old = c.args.guide.now in
     let at = c.args.at in
@@ -41,9 +41,9 @@ add-new_id-requires-clause-stands g c =
     let w = both_parts r at parts in
     let stands = may_stand-upper old.ranges old.next old.limit id c.set.new.self.next at esn r c.live_range.ensures.sound found w.0 w.1 in
     let same : c.ready.new.self.ranges ≡ old.ranges = ap (λ (s : StreetGuide). s.ranges) c.ready.ensures.kept in
-    let ranges : c.set.new.self.ranges ≡ with_moved old.ranges id r.low (last_to r.parity at) r.esn =
+    let ranges : c.set.new.self.ranges ≡ with_moved old.ranges id r.low (greatest_to r.parity at) r.esn =
     ap (λ (s : StreetGuide). s.ranges) c.set.ensures.after
-    ∙ ap (λ (xs : List Range). with_moved xs id r.low c.last_to.result r.esn) same
-    ∙ ap (λ (n : ℕ). with_moved old.ranges id r.low n r.esn) c.last_to.ensures in
-    subst (λ (xs : List Range). MayStand xs (new_range c.set.new.self.next r.key c.first_above-low.result r.high r.parity esn) None) (sym ranges)
-    (subst (λ (n : ℕ). MayStand (with_moved old.ranges id r.low (last_to r.parity at) r.esn) (new_range c.set.new.self.next r.key n r.high r.parity esn) None) (sym c.first_above-low.ensures) stands)
+    ∙ ap (λ (xs : List Range). with_moved xs id r.low c.greatest_up_to.result r.esn) same
+    ∙ ap (λ (n : ℕ). with_moved old.ranges id r.low n r.esn) c.greatest_up_to.ensures in
+    subst (λ (xs : List Range). MayStand xs (new_range c.set.new.self.next r.key c.least_above-low.result r.high r.parity esn) None) (sym ranges)
+    (subst (λ (n : ℕ). MayStand (with_moved old.ranges id r.low (greatest_to r.parity at) r.esn) (new_range c.set.new.self.next r.key n r.high r.parity esn) None) (sym c.least_above-low.ensures) stands)

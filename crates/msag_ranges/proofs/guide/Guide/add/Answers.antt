@@ -10,3 +10,6 @@ invariant_of-self c =
     let stands : MayStand f.ranges.items r None = subst (λ (g : StreetGuide). MayStand g.ranges (new_range g.next c.args.key c.args.low c.args.high c.args.parity c.args.esn) None) (sym c.self.view_is) c.requires.stands in
     let spare : 1 ≤ min (vec_capacity f.ranges) f.limit - length f.ranges.items = subst (λ (g : StreetGuide). 1 ≤ g.spare) (sym c.self.view_is) c.requires.spare in
     subst (λ xs. IsSoundGuide xs (f.next_id + 1) f.limit) (sym c.push_reserved.ensures.items) (sound-add f.ranges.items f.next_id f.limit r c.self.invariant refl stands (omega arith) (omega arith))
+
+pub returns-clause-sound : goal.returns-clause-sound
+returns-clause-sound c = invariant_of-self c

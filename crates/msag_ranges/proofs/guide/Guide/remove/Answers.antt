@@ -18,3 +18,6 @@ returns-clause-after c =
     let of = λ (xs : List Range) (g : StreetGuide). (let v : StreetGuide = record { ranges = xs; next = g.next; limit = g.limit; spare = min (vec_capacity c.retain.new.self) f.limit - length c.retain.new.self.items } in v) in
     ap (λ (xs : List Range). of xs (record { ranges = f.ranges.items; next = f.next_id; limit = f.limit; spare = 0 })) e
     ∙ ap (λ (g : StreetGuide). of (without g.ranges c.args.id) g) c.self.view_is
+
+pub returns-clause-sound : goal.returns-clause-sound
+returns-clause-sound c = invariant_of-self c

@@ -29,3 +29,6 @@ pub returns-in_default-clause-after : goal.returns-in_default-clause-after
 returns-in_default-clause-after c =
     let none : false ≡ true = subst IsSome (find-no_place (λ (s : Range). s.id == c.args.id) c.args.self.now.ranges (sym c.in_default.ensures)) c.requires.live in
     absurd cc
+
+pub returns-in-Some-clause-sound : goal.returns-in-Some-clause-sound
+returns-in-Some-clause-sound c = invariant_of-self c
