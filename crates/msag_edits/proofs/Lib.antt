@@ -5,3 +5,4 @@ pub mod Soundness
 pub mod PartsAndShifts
 pub mod GuideEdits
 pub mod EditedGuides
+pub mod EditedRows

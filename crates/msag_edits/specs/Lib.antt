@@ -3,3 +3,4 @@ pub mod EditRules
 pub mod Edits
 pub mod GuideSoundness
 pub mod EditedTables
+pub mod KeptRows
