@@ -2,7 +2,7 @@
 use Rattle.std.proofs.Common.{◌≡◌, ◌≢◌, ℕ, ◌+◌, ◌≤◌, List, [], ◌∷◌, ◌++◌, length, take, refl, ap, sym, subst, arith, Option, Some, None, length-append}
 use Rattle.std.specs.Io.KnownBytes.{Appends}
 use Rattle.std.proofs.KnownBytes.{Appends-trans, Appends-nil}
-use Rattle.ali_base.specs.WholePuts.{AppendsPart}
+use Rattle.ali_base.specs.WholePuts.{AppendsPart, Puts}
 use Rattle.office_run.specs.ScriptGrammar.{Command, Reads}
 use Rattle.office_run.specs.ScriptReading.{command_at}
 use Rattle.office_run.specs.Replies.{reply_text}

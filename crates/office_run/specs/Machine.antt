@@ -10,7 +10,7 @@ use Rattle.office_state.specs.declared.limits.Limits.{Limits}
 use Rattle.office_state.specs.OfficeState.{State}
 use Rattle.office_state.specs.Verdict.{verdict}
 use Rattle.office_state.specs.History.{state}
-use Rattle.office_state.specs.AnswerForm.{form}
+use Rattle.retrieval.specs.AnswerForm.{form}
 use Rattle.batch_desk.specs.declared.job.Job.{Job}
 use Rattle.batch_desk.specs.declared.job.Job.TheVariants as jobs
 use Rattle.batch_desk.specs.Jobs.{job_standing, entries_left}

@@ -2,9 +2,7 @@
 ghost use Rattle.std.specs.Prelude.{◌≡◌, ℕ, ◌+◌, ◌<◌, ◌≤◌, List, [], ◌∷◌, ◌++◌, length, take, Option, Result, Some, IfOk, OnOk, OnErr, Ok, Err};
 ghost use Rattle.batch_frame.specs.FrameFault.{frame_fault};
 ghost use Rattle.sequence_once.specs.declared.standing.Standing.TheVariants.{Complete};
-ghost use Rattle.std.specs.Io.KnownBytes.{Appends};
-ghost use Rattle.ali_base.specs.Faults.{Rose};
-ghost use Rattle.ali_base.specs.WholePuts.{AppendsPart};
+ghost use Rattle.ali_base.specs.WholePuts.{Puts};
 ghost use Rattle.sequence_once.specs.declared.standing.Standing.{Standing as AnyStanding};
 ghost use Rattle.sequence_once.specs.declared.standing.CycleFault.{CycleFault as AnyFault};
 ghost use Rattle.office_entry.specs.declared.entry.Entry.{Entry as AnyEntry};
@@ -23,15 +21,15 @@ ghost use Rattle.office_run.specs.ParsedCommand.{command_of};
 ghost use Rattle.office_run.specs.MadeReply.{Keeps, IsTrue, StaysReadable, reply_of};
 
 use crate::command::{Ask, Command};
-use crate::reply::{Form, Reply, no_job_line, numbers_line};
+use crate::reply::{Reply, no_job_line, numbers_line};
 use ali_base::{Editor, NoMemory, Serial, Sink, SinkFault, put_all};
 use batch_desk::{
-    Job, SubmitFault, desk_reply, done_line, frame_line, job_done, job_read, next_entry, read_line,
+    Job, SubmitFault, done_line, frame_line, job_done, job_read, next_entry, put_reply, read_line,
     refusal_line, submit_edit, submit_file,
 };
-use error_files::ErrorsEnd;
 use office_entry::{Edit, Entry};
 use office_state::{ApplyFault, DueFault, Limits, Office, Verdict};
+use retrieval::Form;
 use sequence_once::CycleFault;
 use std::alloc::Global;
 use text_line::Line;
@@ -93,7 +91,7 @@ impl Desk {
         }
         Reply::Answer {
             count,
-            form: Form::of(&self.office, ask.tn),
+            form: Form::of(self.office.row(ask.tn), ask.tn),
         }
     }
 
@@ -169,10 +167,7 @@ impl Desk {
     #[tactic(auto, unfolding(crate::specs::Replies::reply_text))]
     pub(crate) fn put<K: Sink>(&self, reply: &Reply, sink: &mut K) -> Result<(), SinkFault>
         requires { IsTrue self.now.office.state self.now.job reply.now }
-        ensures whole { OnOk result (Appends (K.contents sink.old) (K.contents sink.new) (replies.reply_text (reply_of self.now.office.state self.now.job reply.now))) }
-        ensures part { OnErr result (AppendsPart (K.contents sink.old) (K.contents sink.new) (replies.reply_text (reply_of self.now.office.state self.now.job reply.now))) }
-        ensures later { K.faults sink.old ≤ K.faults sink.new }
-        ensures cause { OnErr result (Rose (K.faults sink.old) (K.faults sink.new)) }
+        ensures put { Puts K.contents K.faults sink.old sink.new (replies.reply_text (reply_of self.now.office.state self.now.job reply.now)) result }
     {
         put_all(sink, self.line(reply).bytes())?;
         self.put_block(reply, sink)
@@ -203,30 +198,13 @@ impl Desk {
     // Puts what follows the line.
     fn put_block<K: Sink>(&self, reply: &Reply, sink: &mut K) -> Result<(), SinkFault>
         requires { IsTrue self.now.office.state self.now.job reply.now }
-        ensures whole { OnOk result (Appends (K.contents sink.old) (K.contents sink.new) (replies.reply_block (reply_of self.now.office.state self.now.job reply.now))) }
-        ensures part { OnErr result (AppendsPart (K.contents sink.old) (K.contents sink.new) (replies.reply_block (reply_of self.now.office.state self.now.job reply.now))) }
-        ensures later { K.faults sink.old ≤ K.faults sink.new }
-        ensures cause { OnErr result (Rose (K.faults sink.old) (K.faults sink.new)) }
+        ensures put { Puts K.contents K.faults sink.old sink.new (replies.reply_block (reply_of self.now.office.state self.now.job reply.now)) result }
     {
         match (reply, &self.job) {
-            (Reply::Finished, Some(job)) => put_finished(&self.office, job, sink),
+            (Reply::Finished, Some(job)) => put_reply(&self.office, job, sink),
             (Reply::Answer { form, .. }, _) => put_all(sink, form.bytes()),
             _ => put_all(sink, b""),
         }
-    }
-}
-
-// Puts the reply to a complete job.
-fn put_finished<K: Sink>(office: &Office, job: &Job, sink: &mut K) -> Result<(), SinkFault>
-    requires { job_standing office.now.state job.now ≡ Ok Complete }
-    ensures whole { OnOk result (Appends (K.contents sink.old) (K.contents sink.new) (job_reply office.now.state job.now)) }
-    ensures part { OnErr result (AppendsPart (K.contents sink.old) (K.contents sink.new) (job_reply office.now.state job.now)) }
-    ensures later { K.faults sink.old ≤ K.faults sink.new }
-    ensures cause { OnErr result (Rose (K.faults sink.old) (K.faults sink.new)) }
-{
-    match desk_reply(office, job, sink) {
-        ErrorsEnd::Done => Ok(()),
-        ErrorsEnd::SinkFault => Err(SinkFault),
     }
 }
 

@@ -3,7 +3,6 @@
 
 mod command;
 mod desk;
-mod forms;
 mod input;
 mod laws;
 mod reply;
@@ -12,7 +11,6 @@ mod status;
 mod words;
 
 pub use command::{Ask, Command};
-pub use forms::form;
 pub use laws::{
     batches_complete_their_jobs, commands_are_read_as_spelled, histories_are_legal,
     history_only_grows, repeated_jobs_get_the_same_reply, scripts_have_one_reading,

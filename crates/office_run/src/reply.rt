@@ -1,52 +1,12 @@
 //! Replies to commands.
 ghost use Rattle.std.specs.Prelude.{◌≡◌, ◌≤◌, length};
-ghost use Rattle.std.specs.FinMap as map;
-ghost use Rattle.office_state.specs.AnswerForm as forms;
 ghost use Rattle.office_run.specs.Replies.{numbers_line, no_job_line};
 
-use crate::forms::form;
-use ali_base::Tn;
 use batch_desk::{JobDone, JobRead};
 use batch_frame::FrameFault;
-use office_state::Office;
+use retrieval::Form;
 use sequence_once::CycleFault;
-use std::marker::Model;
 use text_line::Line;
-
-/// The form of a number: up to 640 bytes.
-#[derive(Drop)]
-pub(crate) struct Form {
-    bytes: [u8; 640],
-    len: usize,
-}
-
-impl Model for Form {
-    ghost use Rattle.std.specs.Prelude.{ℕ, ◌≤◌, List, take};
-
-    ghost Value = { List ℕ };
-
-    ghost view = { λ f. take f.len f.bytes };
-
-    ghost invariant = { λ f. f.len ≤ 640 };
-}
-
-impl Form {
-    /// The form of a number in an office.
-    pub(crate) fn of(office: &Office, tn: Tn) -> Self
-        ensures { result ≡ forms.form (map.get office.now.state.table tn) tn }
-    {
-        let mut bytes = [0; 640];
-        let len = form(office.row(tn), tn, &mut bytes);
-        Form { bytes, len }
-    }
-
-    pub(crate) fn bytes(&self) -> &[u8]
-        ensures same { result.now ≡ self.now }
-        ensures len { length result.now ≤ 640 }
-    {
-        &self.bytes[..self.len]
-    }
-}
 
 /// A reply to a command.
 #[derive(Drop)]

@@ -4,7 +4,6 @@ pub mod Soundness
 pub mod Due
 pub mod Verdict
 pub mod History
-pub mod AnswerForm
 pub mod Refusals
 pub mod EditReaders
 pub mod Booked

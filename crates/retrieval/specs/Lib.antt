@@ -1,0 +1,2 @@
+pub mod AnswerForm
+pub mod WordLists
