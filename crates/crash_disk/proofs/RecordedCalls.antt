@@ -16,7 +16,7 @@ told_before pieces more Kept.Synced within = refl
 
 all_told_before : (pieces more : List ℕ) (calls : List Call) → AllWithin (length pieces) calls → map (told (pieces ++ more)) calls ≡ map (told pieces) calls
 all_told_before pieces more [] within = refl
-all_told_before pieces more (call ∷ calls) within = 
+all_told_before pieces more (call ∷ calls) within =
     let first : piece_end call ≤ length pieces = within 0 call (omega arith) in
     let others = all_told_before pieces more calls (λ k d short. within (suc k) d (omega (arith, short))) in
     λ i. told_before pieces more call first i ∷ others i

@@ -32,24 +32,24 @@ module _ (f g : List ℕ) (at : ℕ) (longer : g ≡ f ++ replicate (at - length
   pub in_two : (piece h : List ℕ) (inside : ℕ) → inside ≡ min (length piece) (length g - at)
       → h ≡ take at g ++ (take inside piece ++ drop (at + length (take inside piece)) g) → h ++ drop inside piece ≡ written at piece f
   in_two piece h inside is stands =
-    let count : length (take inside piece) ≡ inside = omega (arith, is, length-take inside piece) in
-    let written_within : h ≡ take at g ++ (take inside piece ++ drop (at + inside) g) = stands ∙ ap (λ n. take at g ++ (take inside piece ++ drop (at + n) g)) count in
-    elim (cases_lt (length g - at) (length piece)) [
-    | inr within ↦
-        let all : inside ≡ length piece = omega (arith, is, within) in
-        ap (λ l. l ++ drop inside piece) written_within
-        ∙ (λ i. take at g ++ (take_all inside piece (omega (arith, all)) i ++ drop (at + all i) g) ++ drop_all inside piece (omega (arith, all)) i)
-        ∙ append-nil (take at g ++ (piece ++ drop (at + length piece) g))
-        ∙ sym (append_assoc (take at g) piece (drop (at + length piece) g))
-        ∙ (λ i. front i ++ piece ++ back (length piece) i)
-    | inl past ↦
-        let none : drop (at + inside) g ≡ [] = drop_all (at + inside) g (omega (arith, is, past, size)) in
-        let none_old : drop (at + length piece) f ≡ [] = drop_all (at + length piece) f (omega (arith, past, size)) in
-        ap (λ l. l ++ drop inside piece) written_within
-        ∙ (λ i. take at g ++ (take inside piece ++ none i) ++ drop inside piece)
-        ∙ ap (λ l. take at g ++ l ++ drop inside piece) (append-nil (take inside piece))
-        ∙ append_assoc (take at g) (take inside piece) (drop inside piece)
-        ∙ ap (λ l. take at g ++ l) (take-append-drop inside piece)
-        ∙ sym (append-nil (take at g ++ piece))
-        ∙ (λ i. front i ++ piece ++ sym none_old i)
-  ]
+      let count : length (take inside piece) ≡ inside = omega (arith, is, length-take inside piece) in
+      let written_within : h ≡ take at g ++ (take inside piece ++ drop (at + inside) g) = stands ∙ ap (λ n. take at g ++ (take inside piece ++ drop (at + n) g)) count in
+      elim (cases_lt (length g - at) (length piece)) [
+        | inr within ↦
+            let all : inside ≡ length piece = omega (arith, is, within) in
+            ap (λ l. l ++ drop inside piece) written_within
+            ∙ (λ i. take at g ++ (take_all inside piece (omega (arith, all)) i ++ drop (at + all i) g) ++ drop_all inside piece (omega (arith, all)) i)
+            ∙ append-nil (take at g ++ (piece ++ drop (at + length piece) g))
+            ∙ sym (append_assoc (take at g) piece (drop (at + length piece) g))
+            ∙ (λ i. front i ++ piece ++ back (length piece) i)
+        | inl past ↦
+            let none : drop (at + inside) g ≡ [] = drop_all (at + inside) g (omega (arith, is, past, size)) in
+            let none_old : drop (at + length piece) f ≡ [] = drop_all (at + length piece) f (omega (arith, past, size)) in
+            ap (λ l. l ++ drop inside piece) written_within
+            ∙ (λ i. take at g ++ (take inside piece ++ none i) ++ drop inside piece)
+            ∙ ap (λ l. take at g ++ l ++ drop inside piece) (append-nil (take inside piece))
+            ∙ append_assoc (take at g) (take inside piece) (drop inside piece)
+            ∙ ap (λ l. take at g ++ l) (take-append-drop inside piece)
+            ∙ sym (append-nil (take at g ++ piece))
+            ∙ (λ i. front i ++ piece ++ sym none_old i)
+      ]

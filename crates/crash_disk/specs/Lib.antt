@@ -6,3 +6,5 @@ pub mod RecordedSound
 pub mod Recording
 pub mod CrashImages
 pub mod MemoryDisk
+pub mod FusedDisk
+pub mod FileState

@@ -54,7 +54,13 @@ fn replay_call(call: &Call, pieces: &[u8], bytes: &mut Vec<u8>)
     ensures bytes { bytes.new.items ≡ content bytes.old.items (told pieces.now call.now ∷ []) }
     ensures room { vec_capacity bytes.old ≤ vec_capacity bytes.new }
 {
-    if let Call::Wrote { at, from, count, done } = *call {
+    if let Call::Wrote {
+        at,
+        from,
+        count,
+        done,
+    } = *call
+    {
         if done {
             write_over(bytes, at as usize, &pieces[from..from + count]);
         }
@@ -68,7 +74,13 @@ fn fill_call(call: &Call, pieces: &[u8], byte: u8, bytes: &mut Vec<u8>)
     ensures bytes { bytes.new.items ≡ filled byte bytes.old.items (told pieces.now call.now ∷ []) }
     ensures room { vec_capacity bytes.old ≤ vec_capacity bytes.new }
 {
-    if let Call::Wrote { at, from, count, done } = *call {
+    if let Call::Wrote {
+        at,
+        from,
+        count,
+        done,
+    } = *call
+    {
         fill_over(bytes, at, pieces[from..from + count].len(), done, byte);
     }
 }

@@ -3,11 +3,16 @@
 
 mod calls;
 mod disk;
+mod faults;
+mod file_disk;
+mod fuse_disk;
 mod image;
 mod kept;
 mod memory_disk;
 mod record;
 
 pub use disk::{Disk, Failed};
+pub use file_disk::FileDisk;
+pub use fuse_disk::FuseDisk;
 pub use kept::Kept;
 pub use memory_disk::MemDisk;

@@ -1,6 +1,5 @@
 //! A disk in memory, which keeps a record of its calls.
 ghost use Rattle.std.specs.Prelude.{◌≡◌, ◌≤◌, ◌+◌, [], true, false, IsTrue, vec_capacity, length, take, drop, is_err, nat_le, IfOk, if◌then◌else◌};
-ghost use Rattle.ali_base.specs.Faults.{one_more};
 ghost use Rattle.crash_disk.specs.CallRecord.{Looked, Wrote, Synced};
 ghost use Rattle.crash_disk.specs.CrashImages.{crash_image};
 ghost use Rattle.crash_disk.specs.declared.kept.Kept.TheVariants.{Old};
@@ -8,6 +7,7 @@ ghost use Rattle.crash_disk.specs.MemoryDisk.{fresh_disk, held, state_of, call_f
 ghost use Rattle.crash_disk.specs.CrashOutcomes.{Stays, Writes, TellsLength, Reads, Writing, Syncing, HasCause};
 
 use crate::disk::{Disk, Failed};
+use crate::faults::count_fault;
 use crate::image::{append, write_over};
 use crate::kept::Kept;
 use crate::record::Record;
@@ -146,7 +146,7 @@ impl MemDisk {
         ensures later { self.old.faults ≤ self.new.faults }
     {
         self.made = self.made.saturating_add(1);
-        self.faults = self.faults.saturating_add(1);
+        self.faults = count_fault(self.faults, true);
         if self.log.has_room(piece.len()) {
             self.log.write(at, piece, false);
         }
@@ -191,17 +191,6 @@ impl MemDisk {
     {
         append(bytes, &self.start);
         self.log.replay_synced(bytes);
-    }
-}
-
-// The count after a call that failed or not.
-fn count_fault(faults: u64, failed: bool) -> u64
-    ensures { result ≡ (if failed then one_more faults else faults) }
-{
-    if failed {
-        faults.saturating_add(1)
-    } else {
-        faults
     }
 }
 

@@ -23,7 +23,7 @@ pub returns-clause-fits : goal.returns-clause-fits
 returns-clause-fits c =
     let m = c.self.inside in
     let image : c.replay_synced.new.bytes.items ≡ content m.start.items (up_to_sync m.log.calls) =
-        c.replay_synced.ensures.bytes ∙ ap (λ l. content l (up_to_sync m.log.calls)) (c.append.ensures.bytes ∙ (λ i. c.requires.empty i ++ c.deref.ensures.value i)) in
+    c.replay_synced.ensures.bytes ∙ ap (λ l. content l (up_to_sync m.log.calls)) (c.append.ensures.bytes ∙ (λ i. c.requires.empty i ++ c.deref.ensures.value i)) in
     omega (
       arith,
       ap length image,
