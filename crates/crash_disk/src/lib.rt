@@ -16,3 +16,6 @@ pub use file_disk::FileDisk;
 pub use fuse_disk::FuseDisk;
 pub use kept::Kept;
 pub use memory_disk::MemDisk;
+
+#[cfg(test)]
+mod tests;
