@@ -1,5 +1,5 @@
 -- Days and their texts.
-use Rattle.std.proofs.Common.{◌≡◌, ◌⊎◌, inl, inr, ℕ, zero, suc, ◌+◌, ◌-◌, ◌^◌, ◌<◌, ◌≤◌, ◌==◌, true, false, cond, ◌&&◌, Option, List, [], ◌∷◌, ◌++◌, length, take, drop, Some, None, pos, nat_le, Bool, refl, sym, ap, subst, ◌∙◌, arith, length-append, append_assoc}
+use Rattle.std.proofs.Common.{◌≡◌, inl, inr, ℕ, zero, suc, ◌+◌, ◌-◌, ◌^◌, ◌<◌, ◌≤◌, ◌==◌, true, false, cond, Option, List, [], ◌∷◌, ◌++◌, length, take, drop, Some, None, pos, Bool, refl, sym, ap, subst, ◌∙◌, arith, length-append, append_assoc}
 use Rattle.std.specs.Prelude.{replicate}
 use Rattle.std.specs.Fmt.{decimal}
 use Rattle.std.specs.Str.{all_ascii_digits}
@@ -16,7 +16,7 @@ use Rattle.ali_base.specs.Columns.{columns}
 use Rattle.ali_base.specs.Digits.{digits_number}
 use Rattle.ali_base.specs.Numbers.{zero_padded}
 use Rattle.ali_base.proofs.Digits.{own}
-use Rattle.ali_base.proofs.Steps.{bind_ok, bind_some, some_is}
+use Rattle.ali_base.proofs.Steps.{bind_ok, bind_some}
 
 -- ---- two digits
 
@@ -48,11 +48,13 @@ two_found (a ∷ b ∷ c ∷ rest) n len h = absurd (omega arith)
 two_found (a ∷ b ∷ []) n len h =
     let w = cond_some (all_ascii_digits (a ∷ b ∷ [])) (digits_value 10 (a ∷ b ∷ [])) n h in
     let short : digits_value 10 (a ∷ b ∷ []) < 10 ^ 2 = digits_value_short own (a ∷ b ∷ []) 2 w.0 (omega arith) in
-    let small : n < 100 = omega (arith, short, w.1) in
-    (elim (cases_eq a 48) [
-      | inl zero_first ↦ led zero_first w
-      | inr other ↦ padded n (a ∷ b ∷ []) (ap decimal (sym w.1) ∙ decimal-digits_value own (a ∷ b ∷ []) w.0 (omega arith) (λ first. absurd (other first)) (omega (arith, short)))
-    ], small)
+    let small : n < 100 = omega (arith, short, w.1) in (
+      elim (cases_eq a 48) [
+        | inl zero_first ↦ led zero_first w
+        | inr other ↦ padded n (a ∷ b ∷ []) (ap decimal (sym w.1) ∙ decimal-digits_value own (a ∷ b ∷ []) w.0 (omega arith) (λ first. absurd (other first)) (omega (arith, short)))
+      ],
+      small,
+    )
   where
     led : a ≡ 48 → (all_ascii_digits (a ∷ b ∷ []) ≡ true) × (digits_value 10 (a ∷ b ∷ []) ≡ n) → zero_padded 2 n ≡ a ∷ b ∷ []
     led first w =
@@ -81,8 +83,7 @@ length-day_text d h =
 parts : (m d y : List ℕ) → length m ≡ 2 → length d ≡ 2 → length y ≡ 2 → (columns (m ++ d ++ y) 1 2 ≡ m) × (columns (m ++ d ++ y) 3 4 ≡ d) × (columns (m ++ d ++ y) 5 6 ≡ y)
 parts m d y m2 d2 y2 =
     let whole = append_assoc m d y in
-    let four : length (m ++ d) ≡ 4 = omega (arith, length-append m d) in
-    (
+    let four : length (m ++ d) ≡ 4 = omega (arith, length-append m d) in (
       ap (take 2) whole ∙ take_at m (d ++ y) 2 m2,
       ap (λ z. take 2 (drop 2 z)) whole ∙ ap (take 2) (drop_at m (d ++ y) 2 m2) ∙ take_at d y 2 d2,
       ap (take 2) (drop_at (m ++ d) y 4 four) ∙ take_all 2 y (omega arith),
@@ -138,9 +139,9 @@ day_of-found bytes d h =
     subst P made.1 (
       record { from = omega arith; to = omega (arith, y.1); civil = made.0 },
       sym (pairs bytes six)
-      ∙ ap (λ z. z ++ columns bytes 3 4 ++ columns bytes 5 6) (sym m.0)
-      ∙ ap (λ z. zero_padded 2 month.0 ++ z ++ columns bytes 5 6) (sym n.0)
-      ∙ ap (λ z. zero_padded 2 month.0 ++ zero_padded 2 day.0 ++ z) (sym y.0 ∙ ap (zero_padded 2) (sym back)),
+          ∙ ap (λ z. z ++ columns bytes 3 4 ++ columns bytes 5 6) (sym m.0)
+          ∙ ap (λ z. zero_padded 2 month.0 ++ z ++ columns bytes 5 6) (sym n.0)
+          ∙ ap (λ z. zero_padded 2 month.0 ++ zero_padded 2 day.0 ++ z) (sym y.0 ∙ ap (zero_padded 2) (sym back)),
     )
   where
     cond_some_of : {A : Type 0} (b : Bool) (o : Option A) (x : A) → cond {A = Option A} b o None ≡ Some x → (b ≡ true) × (o ≡ Some x)

@@ -4,3 +4,4 @@ pub mod PutBytes
 pub mod Puts
 pub mod Steps
 pub mod DayTexts
+pub mod FrontsAgain

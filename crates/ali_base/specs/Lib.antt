@@ -1,6 +1,7 @@
 pub mod Steps
 pub mod Columns
 pub mod Digits
+pub mod Fronts
 pub mod Numbers
 pub mod HouseNumber
 pub mod TelephoneNumber

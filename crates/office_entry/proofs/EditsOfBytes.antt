@@ -14,12 +14,14 @@ use Rattle.office_entry.specs.declared.edit.Edit.TheVariants.{Add, Retire, Split
 use Rattle.office_entry.specs.Differences.{magnitude, is_small_difference, small_difference}
 use Rattle.office_entry.specs.EditKeys.{is_edit_key, edit_key}
 use Rattle.office_entry.specs.Edits.{small_number, IsEdit, IsAdd}
-use Rattle.office_entry.specs.EditBytes.{number_bytes, difference_bytes, key_bytes, edit_bytes}
-use Rattle.office_entry.specs.BytesReading.{front, number_at, key_at, add_from, retire_from, split_from, renumber_from, set_esn_from, edit_from}
+use Rattle.office_entry.specs.EditBytes.{difference_bytes, key_bytes, edit_bytes}
+use Rattle.office_entry.specs.BytesReading.{key_at, add_from, retire_from, split_from, renumber_from, set_esn_from, edit_from}
 use Rattle.std.proofs.lemmas.Option.{cond_some}
+use Rattle.ali_base.specs.Fronts.{front, number_at, number_bytes}
+use Rattle.ali_base.proofs.FrontsAgain.{IsBytes, Takes, Takes-then, Takes-all, front_takes, front_again, number_takes, number_again}
 use Rattle.ali_base.proofs.Steps.{bind_ok, bind_some, some_is}
 use Rattle.office_entry.proofs.Options.{when_true, choose, small_is, small_again}
-use Rattle.office_entry.proofs.FieldBytes.{IsBytes, Takes, Takes-then, Takes-all, front_takes, front_again, number_takes, number_again, key_takes, key_again, HasWidths}
+use Rattle.office_entry.proofs.FieldBytes.{key_takes, key_again, HasWidths}
 use Rattle.office_entry.specs.declared.edit.TheConstants.{HIGHEST_SENT}
 
 -- the edit has these bytes

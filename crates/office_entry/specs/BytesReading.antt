@@ -1,8 +1,9 @@
 -- Reading the bytes of an edit from their front.
-use Rattle.std.specs.Prelude.{ℕ, ◌==◌, nat_lt, List, [], ◌∷◌, take, drop, length, Option, Some, None, if◌then◌else◌}
-use Rattle.std.specs.Int.{w32, from_be_bytes, cast_signed}
+use Rattle.std.specs.Prelude.{ℕ, ◌==◌, List, [], ◌∷◌, Option, Some, None, if◌then◌else◌}
+use Rattle.std.specs.Int.{w32, cast_signed}
 use Rattle.ali_base.specs.Steps.{◌>>=◌, when}
 use Rattle.ali_base.specs.Columns.{is_empty}
+use Rattle.ali_base.specs.Fronts.{front, number_at}
 use Rattle.ali_base.specs.Parity.{parity_of}
 use Rattle.ali_base.specs.declared.street_key.StreetKey.{StreetKey}
 use Rattle.office_entry.specs.declared.edit.Edit.{Edit}
@@ -10,16 +11,6 @@ use Rattle.office_entry.specs.declared.edit.Edit.TheVariants.{Add, Retire, Split
 use Rattle.office_entry.specs.Differences.{small_difference}
 use Rattle.office_entry.specs.EditKeys.{edit_key}
 use Rattle.office_entry.specs.Edits.{small_number}
-
--- the first bytes, so many, and what is left after them
-unfoldable pub front : ℕ → List ℕ → Option (List ℕ × List ℕ)
-front width bytes = if nat_lt (length bytes) width then None else Some (take width bytes, drop width bytes)
-
--- a number of four bytes, and what is left after it
-unfoldable pub number_at : List ℕ → Option (ℕ × List ℕ)
-number_at bytes = do
-  number ← front 4 bytes
-  Some (from_be_bytes w32 number.0, number.1)
 
 -- the six fields of a key, and what is left after them
 unfoldable pub key_at : List ℕ → Option (StreetKey × List ℕ)

@@ -1,15 +1,12 @@
 -- The bytes of an edit.
 use Rattle.std.specs.Prelude.{ℕ, ℤ, List, ◌∷◌, ◌++◌}
-use Rattle.std.specs.Int.{w32, to_be_bytes, cast_unsigned}
+use Rattle.std.specs.Int.{w32, cast_unsigned}
 use Rattle.sha2.specs.Sha256.{sha256}
+use Rattle.ali_base.specs.Fronts.{number_bytes}
 use Rattle.ali_base.specs.Parity.{parity_text}
 use Rattle.ali_base.specs.declared.street_key.StreetKey.{StreetKey}
 use Rattle.office_entry.specs.declared.edit.Edit.{Edit}
 use Rattle.office_entry.specs.declared.edit.Edit.TheVariants.{Add, Retire, Split, Renumber, SetEsn}
-
--- four bytes, the highest first
-abbrev pub number_bytes : ℕ → List ℕ
-number_bytes n = to_be_bytes w32 n
 
 -- a signed number as the four bytes of its two's complement
 abbrev pub difference_bytes : ℤ → List ℕ

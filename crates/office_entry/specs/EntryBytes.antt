@@ -3,7 +3,8 @@ use Rattle.std.specs.Prelude.{◌≡◌, ℕ, ◌-◌, ◌^◌, ◌<◌, ◌≤�
 use Rattle.ali_base.specs.CivilDay.{IsDay, day_text}
 use Rattle.ali_base.specs.Company.{is_company}
 use Rattle.ali_base.specs.Editors.{IsEditor, IsSerial}
-use Rattle.office_entry.specs.EditBytes.{number_bytes, edit_bytes}
+use Rattle.ali_base.specs.Fronts.{number_bytes}
+use Rattle.office_entry.specs.EditBytes.{edit_bytes}
 use Rattle.office_entry.specs.Edits.{IsEdit}
 use Rattle.office_entry.specs.declared.entry.Entry.{Entry}
 use Rattle.office_entry.specs.declared.entry.Entry.TheVariants.{Open, Line, Edit}

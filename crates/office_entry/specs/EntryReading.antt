@@ -3,8 +3,9 @@ use Rattle.std.specs.Prelude.{ℕ, ◌==◌, ◌&&◌, Bool, nat_le, List, [], �
 use Rattle.std.specs.List.{list_all}
 use Rattle.ali_base.specs.CivilDay.{day_of}
 use Rattle.ali_base.specs.Company.{company_of}
+use Rattle.ali_base.specs.Fronts.{front, number_at}
 use Rattle.ali_base.specs.Steps.{◌>>=◌, when}
-use Rattle.office_entry.specs.BytesReading.{front, number_at, edit_from}
+use Rattle.office_entry.specs.BytesReading.{edit_from}
 use Rattle.office_entry.specs.declared.entry.Entry.{Entry}
 use Rattle.office_entry.specs.declared.entry.Entry.TheVariants.{Open, Line, Edit}
 

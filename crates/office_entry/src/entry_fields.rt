@@ -1,6 +1,6 @@
 //! The bytes of an entry while they are put together.
 ghost use Rattle.std.specs.Prelude.{◌≡◌, ℕ, ◌+◌, ◌≤◌, List, [], ◌∷◌, ◌++◌, length};
-ghost use Rattle.office_entry.specs.EditBytes.{number_bytes};
+ghost use Rattle.ali_base.specs.Fronts.{number_bytes};
 ghost use Rattle.office_entry.specs.EntryBytes.{zero_filled};
 
 use std::marker::Model;

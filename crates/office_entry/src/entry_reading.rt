@@ -1,12 +1,11 @@
 //! Reading the bytes of an entry.
-ghost use Rattle.std.specs.Prelude.{◌≡◌, option_map};
+ghost use Rattle.std.specs.Prelude.{◌≡◌};
 ghost use Rattle.ali_base.specs.Steps.{when};
-ghost use Rattle.office_entry.specs.BytesReading.{front};
 ghost use Rattle.office_entry.specs.EntryReading.{are_zeros, open_from, line_from, edit_width, edit_entry_from, entry_from};
 
 use crate::entry::Entry;
-use crate::reading::{edit_from, front, number_at};
-use ali_base::{Company, Cycle, Day, Editor, Serial};
+use crate::reading::edit_from;
+use ali_base::{Company, Cycle, Day, Editor, Serial, first_bytes, front, number_at};
 
 // Whether they are nothing but zeros.
 fn are_zeros(bytes: &[u8]) -> bool
@@ -81,14 +80,6 @@ fn edit_width(bytes: &[u8]) -> usize
         [b'W', ..] => 9,
         _ => 0,
     }
-}
-
-// The first bytes, and what is left after them.
-#[tactic(auto, unfolding(crate::specs::BytesReading::front))]
-fn first_bytes(width: usize, bytes: &[u8]) -> Option<(&[u8], &[u8])>
-    ensures { option_map (λ x. (x.0.now, x.1.now)) result ≡ front width bytes.now }
-{
-    bytes.split_at_checked(width)
 }
 
 // The fields of an editor's edit.

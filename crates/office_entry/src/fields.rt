@@ -1,7 +1,8 @@
 //! The bytes of an edit while they are put together.
 ghost use Rattle.std.specs.Prelude.{◌≡◌, ℕ, ◌+◌, ◌≤◌, List, [], ◌∷◌, ◌++◌, length};
+ghost use Rattle.ali_base.specs.Fronts.{number_bytes};
 ghost use Rattle.office_entry.specs.EditKeys.{IsEditKey};
-ghost use Rattle.office_entry.specs.EditBytes.{number_bytes, key_bytes};
+ghost use Rattle.office_entry.specs.EditBytes.{key_bytes};
 
 use crate::edit_key::EditKey;
 use std::marker::Model;

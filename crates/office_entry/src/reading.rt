@@ -2,30 +2,13 @@
 ghost use Rattle.std.specs.Prelude.{◌≡◌, option_map};
 ghost use Rattle.ali_base.specs.Steps.{when};
 ghost use Rattle.ali_base.specs.Columns.{is_empty};
-ghost use Rattle.office_entry.specs.BytesReading.{front, number_at, key_at, add_from, retire_from, split_from, renumber_from, set_esn_from, edit_from};
+ghost use Rattle.office_entry.specs.BytesReading.{key_at, add_from, retire_from, split_from, renumber_from, set_esn_from, edit_from};
 
 use crate::difference::Difference;
 use crate::edit::Edit;
 use crate::edit_key::EditKey;
 use crate::esn_sent::EsnSent;
-use ali_base::{House, Parity, StreetKey};
-
-/// The first bytes, and what is left after them.
-#[tactic(auto, unfolding(crate::specs::BytesReading::front))]
-pub(crate) fn front<const N: usize>(bytes: &[u8]) -> Option<(&[u8; N], &[u8])>
-    ensures { option_map (λ x. (x.0.now, x.1.now)) result ≡ front N bytes.now }
-{
-    bytes.split_first_chunk::<N>()
-}
-
-/// A number of four bytes, the highest first, and what is left after it.
-#[tactic(auto, unfolding(crate::specs::BytesReading::number_at))]
-pub(crate) fn number_at(bytes: &[u8]) -> Option<(u32, &[u8])>
-    ensures { option_map (λ x. (x.0, x.1.now)) result ≡ number_at bytes.now }
-{
-    let (number, rest) = front::<4>(bytes)?;
-    Some((u32::from_be_bytes(*number), rest))
-}
+use ali_base::{House, Parity, StreetKey, front, number_at};
 
 // The six fields of a street.
 #[tactic(auto, unfolding(crate::specs::BytesReading::key_at))]

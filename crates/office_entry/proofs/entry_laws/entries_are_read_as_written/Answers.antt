@@ -1,4 +1,4 @@
-use Rattle.office_entry.proofs.FieldBytes.{all_bytes}
+use Rattle.ali_base.proofs.FrontsAgain.{all_bytes}
 use Rattle.office_entry.proofs.EntriesOfBytes.{entry_found, entry_again, length-entry_bytes}
 use Rattle.office_entry.proofs.entry_laws.entries_are_read_as_written.Goals as goal
 

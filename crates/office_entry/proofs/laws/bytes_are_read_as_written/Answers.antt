@@ -1,4 +1,4 @@
-use Rattle.office_entry.proofs.FieldBytes.{all_bytes}
+use Rattle.ali_base.proofs.FrontsAgain.{all_bytes}
 use Rattle.office_entry.proofs.EditsOfBytes.{edit_found, edit_again}
 use Rattle.office_entry.proofs.laws.bytes_are_read_as_written.Goals as goal
 

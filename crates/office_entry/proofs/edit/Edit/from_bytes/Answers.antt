@@ -4,7 +4,7 @@ use Rattle.office_entry.specs.declared.edit.Edit.{Edit}
 use Rattle.office_entry.specs.Edits.{IsEdit}
 use Rattle.office_entry.specs.EditBytes.{edit_bytes}
 use Rattle.office_entry.specs.BytesReading.{edit_from}
-use Rattle.office_entry.proofs.FieldBytes.{IsBytes}
+use Rattle.ali_base.proofs.FrontsAgain.{IsBytes}
 use Rattle.office_entry.proofs.EditsOfBytes.{edit_found, edit_again}
 use Rattle.office_entry.proofs.edit.Edit.from_bytes.Goals as goal
 

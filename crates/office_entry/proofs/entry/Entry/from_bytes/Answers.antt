@@ -3,7 +3,7 @@ use Rattle.std.specs.Prelude.{IfSome}
 use Rattle.office_entry.specs.declared.entry.Entry.{Entry}
 use Rattle.office_entry.specs.EntryBytes.{IsInRange, entry_bytes}
 use Rattle.office_entry.specs.EntryReading.{entry_from}
-use Rattle.office_entry.proofs.FieldBytes.{IsBytes}
+use Rattle.ali_base.proofs.FrontsAgain.{IsBytes}
 use Rattle.office_entry.proofs.EntriesOfBytes.{entry_found, entry_again}
 use Rattle.office_entry.proofs.entry.Entry.from_bytes.Goals as goal
 

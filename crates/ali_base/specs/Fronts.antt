@@ -1,0 +1,18 @@
+-- Reading bytes from their front: fields of a fixed width, and numbers of four bytes.
+use Rattle.std.specs.Prelude.{ℕ, nat_lt, List, take, drop, length, Option, Some, None, if◌then◌else◌}
+use Rattle.std.specs.Int.{w32, to_be_bytes, from_be_bytes}
+use Rattle.ali_base.specs.Steps.{◌>>=◌}
+
+-- the first bytes, so many, and what is left after them
+unfoldable pub front : ℕ → List ℕ → Option (List ℕ × List ℕ)
+front width bytes = if nat_lt (length bytes) width then None else Some (take width bytes, drop width bytes)
+
+-- four bytes, the highest first
+abbrev pub number_bytes : ℕ → List ℕ
+number_bytes n = to_be_bytes w32 n
+
+-- a number of four bytes, and what is left after it
+unfoldable pub number_at : List ℕ → Option (ℕ × List ℕ)
+number_at bytes = do
+  number ← front 4 bytes
+  Some (from_be_bytes w32 number.0, number.1)
