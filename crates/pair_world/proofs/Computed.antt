@@ -1,6 +1,8 @@
 -- Schedules whose entries are data, computed: the world after each event, and what is asked of it.
 use Rattle.std.proofs.Common.{◌≡◌, suc, ◌<◌, inl, Bool, true, false, not, ◌&&◌, ◌==◌, nat_lt, List, [], ◌∷◌, length, refl, ap, arith, Option, Some, None}
+use Rattle.std.proofs.lemmas.Bool.{and_parts}
 use Rattle.std.proofs.lemmas.Bool.Decides.{nat_tests}
+use Rattle.ali_base.specs.Steps.{when}
 use Rattle.ali_base.specs.declared.names.NodeName.{NodeName}
 use Rattle.ali_base.specs.declared.names.NodeName.TheVariants.{A, B}
 use Rattle.ali_base.specs.declared.duty.Mode.{Mode}
@@ -10,12 +12,7 @@ use Rattle.pair_world.specs.World.{other, Message, Ships, Acks, node_at, Resolve
 use Rattle.pair_world.specs.Changes.{written, shipped, delivered, booked_next, duty_changed, stopped}
 use Rattle.pair_world.specs.Step.{Event, Write, Ship, Deliver, Drop, Book, Take, Go_alone, Pair_up, Stop, Start, Start_duty, Ask, Outcome, Done, Answered, Refused, Faulted, Halted, CanDeliver, CanLeavePair, WorldStep, Step, Turn, Runs}
 use Rattle.pair_world.specs.WorkedSchedules.{office_bounds}
-use Rattle.pair_world.proofs.Items.{and_parts, on_item}
-
--- this, where the test is true
-abbrev when : {A : Type 0} → Bool → A → Option A
-when true x = Some x
-when false x = None
+use Rattle.pair_world.proofs.Items.{on_item}
 
 when_told : {A : Type 0} (b : Bool) (x y : A) → when b x ≡ Some y → (b ≡ true) × (y ≡ x)
 when_told true x y is = (refl, some_is x y is)

@@ -2,13 +2,14 @@
 use Rattle.std.proofs.Common.{◌≡◌, ℕ, zero, suc, ◌-◌, ◌<◌, ◌≤◌, ◌⊎◌, inl, inr, true, false, not, ◌&&◌, ◌==◌, nat_lt, List, [], ◌∷◌, ◌++◌, length, take, refl, ap, sym, ◌∙◌, arith, Option, Some, None}
 use Rattle.std.specs.Prelude.{slice_get}
 use Rattle.std.proofs.lemmas.List.{take_all, length_push}
+use Rattle.std.proofs.lemmas.Bool.{and_parts}
 use Rattle.std.proofs.lemmas.Bool.Decides.{nat_tests}
 use Rattle.pair_world.specs.Frames.{Frame, epoch_at, Begins, Shares, Agree, Rising}
 use Rattle.pair_world.specs.World.{Shipment}
 use Rattle.pair_world.specs.Deliveries.{Answer, Behind, Have, Cut, Stored, Have_end, differs_before, old_next, answer_in}
 use Rattle.pair_world.specs.SoundWorld.{Tells}
 use Rattle.pair_world.proofs.Parts.{UncommittedSuffix, Follows}
-use Rattle.pair_world.proofs.Items.{nth_more, by_test, and_parts}
+use Rattle.pair_world.proofs.Items.{nth_more, by_test}
 use Rattle.pair_world.proofs.Lists.{epoch_is, Shares-less, Shares-epoch, Begins-Shares, Shares-Begins, Shares-take, Agree-Shares}
 
 -- a cut takes the old suffix, and nothing that the two share

@@ -7,11 +7,6 @@ pub by_test : {A : Type 0} (P : A → Type 0) (b : Bool) (s t : A) → (b ≡ tr
 by_test P true s t h k = h refl
 by_test P false s t h k = k refl
 
-pub and_parts : (a b : Bool) → (a && b) ≡ true → (a ≡ true) × (b ≡ true)
-and_parts true true h = (refl, refl)
-and_parts true false h = absurd (cc)
-and_parts false b h = absurd (cc)
-
 pub bool_is : (a b : Bool) → ◌≡◌ {A = Option Bool} (Some a) (Some b) → a ≡ b
 bool_is a b e = cc
 

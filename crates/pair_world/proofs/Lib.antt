@@ -18,6 +18,7 @@ pub mod Duties
 pub mod Origins
 pub mod SoundSteps
 pub mod Limiting
+pub mod LargerLimits
 pub mod Computed
 pub mod WorkedRuns
 pub mod NeededRuns

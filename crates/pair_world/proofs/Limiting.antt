@@ -311,11 +311,14 @@ module _ {E : Type 0} (due : List E → E → Type 0) (bounds : Bounds) (w : Wor
         | inr wrote ↦ as_it_is v _ wrote.1 (write_failed_within (other x.sender) (journal_after (node_at w.base.nodes (other x.sender)).journal (answer (node_at w.base.nodes (other x.sender)).journal x)) (answer_len bounds (node_at w.base.nodes (other x.sender)).journal x (h.firsts (other x.sender)) (h.ships x i)))
       ]
   fails_within Book v g = falls_within w.base.duty.holder v g.2
-  fails_within (Take n) v g = as_it_is v _ g.2 (register_failed_within (new_duty w.base n Alone (length (node_at w.base.nodes n).journal)) (next_epoch g.1.epochs_left))
+  fails_within (Take n) v g = elim g.1 [
+    | inl read ↦ falls_within n v read.1
+    | inr wrote ↦ as_it_is v _ wrote.1 (register_failed_within (new_duty w.base n Alone (length (node_at w.base.nodes n).journal)) (next_epoch wrote.0.epochs_left))
+  ]
   fails_within Go_alone v g = as_it_is v _ g.2 (register_failed_within (new_duty w.base w.base.duty.holder Alone (length w.base.booked)) (next_epoch g.1.epochs_left))
   fails_within Pair_up v g = as_it_is v _ g.2 (register_failed_within (new_duty w.base w.base.duty.holder Both (length w.base.booked)) (next_epoch g.1.epochs_left))
   fails_within (Start n) v g = as_it_is v w g.2 h
-  fails_within Start_duty v g = as_it_is v w g.1 h
+  fails_within Start_duty v g = elim g.1 [ inl same ↦ as_it_is v w same h | inr read ↦ falls_within read.0.holder v read.4 ]
   fails_within (Ask n r since) v g = falls_within n v g.1
   fails_within (Drop i) v g = absurd g
   fails_within (Stop n) v g = absurd g
@@ -324,7 +327,7 @@ no_message : {A : Type 0} (x : A) (i : ℕ) → slice_get {X = A} [] i ≡ Some 
 no_message x i h = absurd (cc)
 
 module _ {E : Type 0} (bounds : Bounds) where
-  opened_within : (d : Duty) (ds : List Duty) (ja jb : List (Frame E)) → IsEpoch bounds d.epoch → IsJournal bounds ja → IsJournal bounds jb → Within bounds (without_doubt (opened d ds ja jb))
+  pub opened_within : (d : Duty) (ds : List Duty) (ja jb : List (Frame E)) → IsEpoch bounds d.epoch → IsJournal bounds ja → IsJournal bounds jb → Within bounds (without_doubt (opened d ds ja jb))
   opened_within d ds ja jb e a b =
       record {
         firsts = λ n. first n;

@@ -1,5 +1,5 @@
 -- What each part of the invariant is for: the schedules, computed.
-use Rattle.std.proofs.Common.{◌≡◌, true, false, List, [], ◌∷◌, refl, ap, arith}
+use Rattle.std.proofs.Common.{◌≡◌, inr, true, false, List, [], ◌∷◌, refl, ap, arith}
 use Rattle.ali_base.specs.declared.names.NodeName.{NodeName}
 use Rattle.ali_base.specs.declared.names.NodeName.TheVariants.{A, B}
 use Rattle.ali_base.specs.declared.duty.Mode.TheVariants.{Both, Alone}
@@ -80,7 +80,7 @@ module _ {E Q R : Type 0} (due : List E → E → Type 0) (form : List E → Q �
       record {
         runs = (
           register_failed (high_floor e) (new_duty (high_floor e).base B Alone 0),
-          (refl {a = true}, record { up = refl {a = true}; both = refl {a = Both}; epochs_left = omega arith }, refl),
+          (refl {a = true}, inr (record { up = refl {a = true}; both = refl {a = Both}; epochs_left = omega arith }, refl)),
           (
             after_high_floor e,
             (false, refl {a = false}, refl),

@@ -158,9 +158,12 @@ module _ {E Q : Type 0} (due : List E → E → Type 0) (bounds : Bounds) (w : W
         | inr write ↦ as_it_is (Deliver i) v _ c write.1 (stored i x at g.0 write.0 c)
       ]
   fault_origin Book v g c = fell_only due bounds w s Book w.base.duty.holder v g.2 c
-  fault_origin (Take n) v g c =
-      as_it_is (Take n) v _ c g.2 (changed (Take n) (new_duty w.base n Alone (length (node_at w.base.nodes n).journal)) (λ c. duty_changed (unrecovered c w) n Alone (node_at (unrecovered c w).nodes n).journal) g.0
-      (λ c. (can_take due w s bounds n c g.1, refl)) (λ c. take_is due w s n c g.1.up g.1.both) c)
+  fault_origin (Take n) v g c = elim g.1 [
+    | inl read ↦ fell_only due bounds w s (Take n) n v read.1 c
+    | inr wrote ↦
+        as_it_is (Take n) v _ c wrote.1 (changed (Take n) (new_duty w.base n Alone (length (node_at w.base.nodes n).journal)) (λ c. duty_changed (unrecovered c w) n Alone (node_at (unrecovered c w).nodes n).journal) g.0
+        (λ c. (can_take due w s bounds n c wrote.0, refl)) (λ c. take_is due w s n c wrote.0.up wrote.0.both) c)
+  ]
   fault_origin Go_alone v g c =
       as_it_is Go_alone v _ c g.2 (changed Go_alone (new_duty w.base w.base.duty.holder Alone (length w.base.booked)) (λ c. duty_changed (unrecovered c w) w.base.duty.holder Alone w.base.booked) g.0
       (λ c. (can_take due w s bounds w.base.duty.holder c g.1, refl)) (λ c. same_duty_is due w s Alone c) c)
@@ -168,7 +171,10 @@ module _ {E Q : Type 0} (due : List E → E → Type 0) (bounds : Bounds) (w : W
       as_it_is Pair_up v _ c g.2 (changed Pair_up (new_duty w.base w.base.duty.holder Both (length w.base.booked)) (λ c. duty_changed (unrecovered c w) w.base.duty.holder Both w.base.booked) g.0
       (λ c. (can_pair due w s bounds c g.1, refl)) (λ c. same_duty_is due w s Both c) c)
   fault_origin (Start n) v g c = nothing due bounds w s (Start n) v g.2 c
-  fault_origin Start_duty v g c = nothing due bounds w s Start_duty v g.1 c
+  fault_origin Start_duty v g c = elim g.1 [
+    | inl same ↦ nothing due bounds w s Start_duty v same c
+    | inr read ↦ fell_only due bounds w s Start_duty read.0.holder v read.4 c
+  ]
   fault_origin (Ask n r since) v g c = fell_only due bounds w s (Ask n r since) n v g.1 c
   fault_origin (Drop i) v g c = absurd g
   fault_origin (Stop n) v g c = absurd g

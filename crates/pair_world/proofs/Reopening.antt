@@ -2,13 +2,14 @@
 use Rattle.std.proofs.Common.{◌≡◌, inl, inr, Bool, true, false, cond, List, refl, ap, sym, ◌∙◌, subst, Option, Some, None}
 use Rattle.ali_base.specs.declared.names.NodeName.{NodeName}
 use Rattle.ali_base.specs.declared.names.NodeName.TheVariants.{A, B}
+use Rattle.ali_base.specs.declared.duty.Mode.TheVariants.{Both}
 use Rattle.ali_base.specs.declared.duty.Duty.{Duty}
 use Rattle.pair_world.specs.Frames.{Frame, Begins}
 use Rattle.pair_world.specs.World.{NodeState, node_at, put_node, Resolved, with_nodes, with_duty, recovered, failed_write_at, World, Choice, picked_node, picked_nodes, with_failed_duty, unrecovered, resolved, MayHold, MayRead, Nodes, opened, without_doubt}
 use Rattle.pair_world.specs.Changes.{register_started}
 use Rattle.pair_world.proofs.Parts.{IsParts, IsKept}
 use Rattle.pair_world.proofs.Lists.{Begins-refl, Begins-trans}
-use Rattle.pair_world.proofs.Worlds.{recover_sound, halt_sound, recovered_booked, open_begins}
+use Rattle.pair_world.proofs.Worlds.{both_begin, recover_sound, halt_sound, recovered_booked, open_begins}
 use Rattle.pair_world.proofs.Doubts.{same_journal, no_duty, some_duty}
 use Rattle.pair_world.proofs.Recovery.{recovery_longer}
 use Rattle.pair_world.proofs.Kept.{none_failed}
@@ -122,6 +123,16 @@ module _ {E : Type 0} (due : List E → E → Type 0) (w : World E) (s : IsKept 
 
   pub base_sound : IsParts due w.base
   base_sound = subst (IsParts due) (first_is first_choice refl refl) (s.unrecovered_parts first_choice)
+
+  -- in mode Both the history is in each journal
+  pub held_begins : (n : NodeName) (j : List (Frame E)) → w.base.duty.mode ≡ Both → MayHold w n j → Begins j w.base.booked
+  held_begins n j both may =
+      let h = held n j may in
+      by_choice n h.0 h.1
+    where
+      by_choice : (n : NodeName) (b : Bool) → (picked_node (failed_write_at w.failed_writes n) b (node_at w.base.nodes n)).journal ≡ j → Begins j w.base.booked
+      by_choice A b is = let c : Choice = record { a = b; b = false; duty = false } in subst (λ z. Begins z w.base.booked) is (both_begin due (unrecovered (record { a = b; b = false; duty = false }) w) (s.unrecovered_parts c) both A)
+      by_choice B b is = let c : Choice = record { a = false; b = b; duty = false } in subst (λ z. Begins z w.base.booked) is (both_begin due (unrecovered (record { a = false; b = b; duty = false }) w) (s.unrecovered_parts c) both B)
 
   pub register_started_longer : (b : Bool) → Begins (register_started w b).base.booked w.base.booked
   register_started_longer b = by_duty w.failed_duty refl b

@@ -68,11 +68,17 @@ module _ {E Q : Type 0} (due : List E → E → Type 0) (bounds : Bounds) (w : W
         | inr wrote ↦ kept_as due w s v _ wrote.1 (same_history due w s _ (store_fails due w s x i g.0 wrote.0) refl)
       ]
   fails Book v g = falls due w s w.base.duty.holder v g.2
-  fails (Take n) v g = kept_as due w s v _ g.2 (same_history due w s _ (take_fails due w s bounds n g.1) refl)
+  fails (Take n) v g = elim g.1 [
+    | inl read ↦ falls due w s n v read.1
+    | inr wrote ↦ kept_as due w s v _ wrote.1 (same_history due w s _ (take_fails due w s bounds n wrote.0) refl)
+  ]
   fails Go_alone v g = kept_as due w s v _ g.2 (same_history due w s _ (alone_fails due w s bounds g.1) refl)
   fails Pair_up v g = kept_as due w s v _ g.2 (same_history due w s _ (pair_fails due w s bounds g.1) refl)
   fails (Start n) v g = kept_as due w s v w g.2 (same_history due w s w s refl)
-  fails Start_duty v g = kept_as due w s v w g.1 (same_history due w s w s refl)
+  fails Start_duty v g = elim g.1 [
+    | inl same ↦ kept_as due w s v w same (same_history due w s w s refl)
+    | inr read ↦ falls due w s read.0.holder v read.4
+  ]
   fails (Ask n r since) v g = falls due w s n v g.1
   fails (Drop i) v g = absurd g
   fails (Stop n) v g = absurd g

@@ -1,16 +1,17 @@
 -- The laws as lemmas over sound worlds, for the proofs of later crates.
-use Rattle.std.proofs.Common.{◌≡◌, ◌<◌, List, length}
+use Rattle.std.proofs.Common.{◌≡◌, ◌<◌, List, length, sym, subst}
 use Rattle.ali_base.specs.declared.names.NodeName.{NodeName}
 use Rattle.ali_base.specs.declared.names.NodeName.TheVariants.{A, B}
+use Rattle.ali_base.specs.declared.duty.Mode.TheVariants.{Both}
 use Rattle.ali_base.specs.declared.duty.Duty.{Duty}
-use Rattle.pair_world.specs.Frames.{Frame, Begins}
-use Rattle.pair_world.specs.World.{Resolved, World, Choice, node_at, holder_journal, other_journal, MayHold, MayRead, unrecovered, resolved, opened, formatted, without_doubt, with_nodes, picked_nodes}
+use Rattle.pair_world.specs.Frames.{Frame, Begins, Legal}
+use Rattle.pair_world.specs.World.{Resolved, World, Choice, node_at, holder_journal, other_journal, MayHold, MayRead, IsReopened, unrecovered, resolved, opened, formatted, without_doubt, with_nodes, picked_nodes}
 use Rattle.pair_world.specs.Step.{Event, Outcome, Done, Take, Pair_up, Bounds, Turn, ResolvedStep, Fails, Step, Runs}
-use Rattle.pair_world.specs.SoundWorld.{Invariant, IsSound}
+use Rattle.pair_world.specs.SoundWorld.{Invariant, IsSound, Booked}
 use Rattle.pair_world.specs.FaultOrigin.{ComesFrom}
 use Rattle.pair_world.proofs.Worlds.{caught_up, formatted_sound, halt_sound}
 use Rattle.pair_world.proofs.Doubts.{same_step}
-use Rattle.pair_world.proofs.Reopening.{without_doubt_kept, reopened_keeps}
+use Rattle.pair_world.proofs.Reopening.{without_doubt_kept, reopened_keeps, base_sound, held_begins}
 use Rattle.pair_world.proofs.Schedules.{fails, step_keeps, runs_keep}
 use Rattle.pair_world.proofs.NineParts.{parts_from, parts_of, kept_from, sound_of}
 use Rattle.pair_world.proofs.Duties.{takeover, pair}
@@ -34,6 +35,23 @@ module _ {E : Type 0} (due : List E → E → Type 0) where
   reopened_has_parts w s duty past journal_a journal_b register disk_a disk_b =
       let r = reopened_keeps due w (kept_from due w s) duty past journal_a journal_b register disk_a disk_b in
       (parts_of due (opened duty past journal_a journal_b) r.0, r.1)
+
+  -- what a run finds is sound
+  pub reopened_is_sound : (w v : World E) → IsSound due w → IsReopened w v → IsSound due v × Begins v.base.booked w.base.booked
+  reopened_is_sound w v s r =
+      let p = reopened_has_parts w s r.duty r.past r.journal_a r.journal_b r.register r.disk_a r.disk_b in
+      subst (λ (z : World E). IsSound due z × Begins z.base.booked w.base.booked) (sym r.opens)
+      (sound_without_doubt (opened r.duty r.past r.journal_a r.journal_b) p.0, p.1)
+
+  pub base_has_parts : (w : World E) → IsSound due w → Invariant due w.base
+  base_has_parts w s = parts_of due w.base (base_sound due w (kept_from due w s))
+
+  pub history_is_legal : (w : World E) → IsSound due w → Legal due w.base.booked
+  history_is_legal w s = ((base_has_parts w s).holds Booked).legal
+
+  -- in mode Both each journal that a disk may hold begins with the history
+  pub journals_begin : (w : World E) (node : NodeName) (journal : List (Frame E)) → IsSound due w → w.base.duty.mode ≡ Both → MayHold w node journal → Begins journal w.base.booked
+  journals_begin w node journal s both may = held_begins due w (kept_from due w s) node journal both may
 
 module _ {E : Type 0} (due : List E → E → Type 0) (bounds : Bounds) (w : World E) (s : IsSound due w) where
   pub step_alike : {Q : Type 0} (event : Event E Q) (done : Resolved E) → ResolvedStep due bounds w.base event done → (choice : Choice) → ResolvedStep due bounds (unrecovered choice w) event (with_nodes done (picked_nodes choice w.failed_writes done.nodes))

@@ -1,5 +1,5 @@
 -- The worked schedules, computed.
-use Rattle.std.proofs.Common.{true, false, List, [], ◌∷◌, refl, arith}
+use Rattle.std.proofs.Common.{inr, true, false, List, [], ◌∷◌, refl, arith}
 use Rattle.ali_base.specs.declared.names.NodeName.TheVariants.{B}
 use Rattle.ali_base.specs.declared.duty.Mode.TheVariants.{Both, Alone}
 use Rattle.pair_world.specs.World.{formatted, without_doubt}
@@ -40,7 +40,7 @@ module _ {E Q R : Type 0} (due : List E → E → Type 0) (form : List E → Q �
   pub change_lost : Runs due form office_bounds (without_doubt formatted) (failed_takeover {E = E} {Q = Q} {R = R}) (without_doubt formatted)
   change_lost = (
     register_failed (without_doubt formatted) (new_duty (formatted {E = E}) B Alone 0),
-    (refl {a = true}, record { up = refl {a = true}; both = refl {a = Both}; epochs_left = omega arith }, refl),
+    (refl {a = true}, inr (record { up = refl {a = true}; both = refl {a = Both}; epochs_left = omega arith }, refl)),
     (
       without_doubt formatted,
       (false, refl {a = false}, refl),
@@ -51,7 +51,7 @@ module _ {E Q R : Type 0} (due : List E → E → Type 0) (form : List E → Q �
   pub change_lasted : Runs due form office_bounds (without_doubt formatted) (failed_takeover {E = E} {Q = Q} {R = R}) after_failed_takeover
   change_lasted = (
     register_failed (without_doubt formatted) (new_duty (formatted {E = E}) B Alone 0),
-    (refl {a = true}, record { up = refl {a = true}; both = refl {a = Both}; epochs_left = omega arith }, refl),
+    (refl {a = true}, inr (record { up = refl {a = true}; both = refl {a = Both}; epochs_left = omega arith }, refl)),
     (
       after_failed_takeover,
       (true, refl {a = false}, refl),

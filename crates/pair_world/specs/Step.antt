@@ -2,8 +2,9 @@
 use Rattle.std.specs.Prelude.{ℕ, suc, ◌≡◌, ◌<◌, ◌≤◌, List, [], ◌∷◌, length, Bool, true, false, ◌⊎◌}
 use Rattle.ali_base.specs.declared.names.NodeName.{NodeName}
 use Rattle.ali_base.specs.declared.duty.Mode.TheVariants.{Both, Alone}
+use Rattle.ali_base.specs.declared.duty.Duty.{Duty}
 use Rattle.pair_world.specs.Frames.{entries, item_at, OnItem, without}
-use Rattle.pair_world.specs.World.{other, Shipment, Ack, Message, Ships, Acks, node_at, Resolved, holder_journal, known, is_up, World, IsReopened}
+use Rattle.pair_world.specs.World.{other, Shipment, Ack, Message, Ships, Acks, node_at, Resolved, holder_journal, known, is_up, World, MayRead, IsReopened}
 use Rattle.pair_world.specs.Changes.{journal_written, written, shipped, delivered, epoch_heard, booked_next, new_duty, duty_changed, stopped, started, register_started, read_failed, write_failed, register_failed, journal_stored}
 
 -- What may happen. Numbers of frames and of messages count from 1.
@@ -152,7 +153,7 @@ FailsToStore w x v =
     ⊎ (CanStore w.base x × (v ≡ write_failed w (other x.sender) (journal_stored w.base x)))
 
 -- A device failed in the event: the node, or the register, is down with the lists before and after, and nothing else
--- changed.
+-- changed. In Take and in Start_duty the node may fail whose journal is read to be booked.
 abbrev pub Fails : {E Q : Type 0} → (List E → E → Type 0) → Bounds → World E → Event E Q → World E → Type 0
 Fails due bounds w (Write entry) v =
     (w.register_up ≡ true)
@@ -163,8 +164,10 @@ Fails due bounds w (Deliver i) v =
     (w.register_up ≡ true) × OnItem (item_at w.base.messages i) (λ m. OnShipment m (λ x. FailsToStore w x v))
 Fails due bounds w Book v = (w.register_up ≡ true) × is_up w.base w.base.duty.holder × (v ≡ read_failed w w.base.duty.holder)
 Fails due bounds w (Take n) v =
-    (w.register_up ≡ true) × CanLeavePair bounds w.base n
-    × (v ≡ register_failed w (new_duty w.base n Alone (length (node_at w.base.nodes n).journal)))
+    (w.register_up ≡ true)
+    × ((is_up w.base n × (v ≡ read_failed w n))
+    ⊎ (CanLeavePair bounds w.base n
+    × (v ≡ register_failed w (new_duty w.base n Alone (length (node_at w.base.nodes n).journal)))))
 Fails due bounds w Go_alone v =
     (w.register_up ≡ true) × CanLeavePair bounds w.base w.base.duty.holder
     × (v ≡ register_failed w (new_duty w.base w.base.duty.holder Alone (length w.base.booked)))
@@ -172,7 +175,10 @@ Fails due bounds w Pair_up v =
     (w.register_up ≡ true) × CanPair bounds w.base
     × (v ≡ register_failed w (new_duty w.base w.base.duty.holder Both (length w.base.booked)))
 Fails due bounds w (Start n) v = (w.register_up ≡ true) × ((node_at w.base.nodes n).up ≡ false) × (v ≡ w)
-Fails due bounds w Start_duty v = (w.register_up ≡ false) × (v ≡ w)
+Fails due bounds w Start_duty v =
+    (w.register_up ≡ false)
+    × ((v ≡ w)
+    ⊎ ((duty : Duty) × (past : List Duty) × MayRead w duty past × is_up w.base duty.holder × (v ≡ read_failed w duty.holder)))
 Fails due bounds w (Ask n request since) v = is_up w.base n × (v ≡ read_failed w n)
 Fails due bounds w (Drop i) v = ⊥
 Fails due bounds w (Stop n) v = ⊥

@@ -2,13 +2,14 @@
 ghost use Rattle.std.specs.Prelude.{◌≡◌, ◌<◌, ◌≤◌, ◌↔◌, ℕ, List, length, None, true};
 ghost use Rattle.ali_base.specs.declared.names.NodeName.{NodeName};
 ghost use Rattle.ali_base.specs.declared.names.NodeName.TheVariants.{A, B};
+ghost use Rattle.ali_base.specs.declared.duty.Mode.TheVariants.{Both};
 ghost use Rattle.ali_base.specs.declared.duty.Duty.{Duty};
-ghost use Rattle.pair_world.specs.Frames.{Frame, Begins, In};
-ghost use Rattle.pair_world.specs.World.{Resolved, World, Choice, node_at, known, is_up, with_node, failed_write_at, term, term_from, holder_journal, other_journal, MayHold, MayRead, unrecovered, resolved, opened, without_doubt, formatted, with_nodes, picked_nodes};
+ghost use Rattle.pair_world.specs.Frames.{Frame, Begins, Legal, In};
+ghost use Rattle.pair_world.specs.World.{Resolved, World, Choice, node_at, known, is_up, with_node, failed_write_at, term, term_from, holder_journal, other_journal, MayHold, MayRead, IsReopened, unrecovered, resolved, opened, without_doubt, formatted, with_nodes, picked_nodes};
 ghost use Rattle.pair_world.specs.Step.{Event, Outcome, Done, Answered, Refused, Take, Pair_up, Bounds, Turn, ResolvedStep, Fails, Step, Runs};
 ghost use Rattle.pair_world.specs.SoundWorld.{AreCounted, Invariant, IsSound};
 ghost use Rattle.pair_world.specs.FaultOrigin.{ComesFrom};
-ghost use Rattle.pair_world.specs.Limits.{IsWithin};
+ghost use Rattle.pair_world.specs.Limits.{IsEpoch, IsJournal, IsWithin};
 
 /// What entries are, which of them may be booked next after which, and how a request is answered from a history.
 pub trait Entries {
@@ -90,6 +91,22 @@ pub fn crashes_lose_nothing<L: Entries>()
         → IsSound L.due w → MayRead w duty past → MayHold w A journal_a → MayHold w B journal_b
         → Invariant L.due (opened duty past journal_a journal_b)
         × Begins (opened duty past journal_a journal_b).booked w.base.booked }
+    // The same of the world as a run finds it: it is sound, and loses nothing.
+    ensures sound { (w v : World L.Entry) → IsSound L.due w → IsReopened w v
+        → IsSound L.due v × Begins v.base.booked w.base.booked }
+    // A world without doubt is sound exactly where it has the invariant.
+    ensures without_doubt { (w : Resolved L.Entry)
+        → IsSound L.due (without_doubt w) ↔ Invariant L.due w }
+{}
+
+/// A sound world itself has the invariant, each disk taken as before its failed write. So its booked history is
+/// legal, and in mode Both each journal begins with it.
+pub fn sound_worlds_are_legal<L: Entries>()
+    ensures base { (w : World L.Entry) → IsSound L.due w → Invariant L.due w.base }
+    ensures legal { (w : World L.Entry) → IsSound L.due w → Legal L.due w.base.booked }
+    ensures both { (w : World L.Entry) (node : NodeName) (journal : List (Frame L.Entry))
+        → IsSound L.due w → w.base.duty.mode ≡ Both → MayHold w node journal
+        → Begins journal w.base.booked }
 {}
 
 /// A refusal changes nothing but a known epoch, which may rise, and an answer changes nothing.
@@ -116,6 +133,16 @@ pub fn limits_hold<L: Entries>()
     ensures schedule { (bounds : Bounds) (w v : World L.Entry)
         (turns : List (Turn L.Entry L.Request L.Reply))
         → IsWithin bounds w → Runs L.due L.form bounds w turns v → IsWithin bounds v }
+    // What a run finds is within the limits where each disk's list is.
+    ensures opened { (bounds : Bounds) (duty : Duty) (past : List Duty)
+        (journal_a journal_b : List (Frame L.Entry))
+        → IsEpoch bounds duty.epoch → IsJournal bounds journal_a → IsJournal bounds journal_b
+        → IsWithin bounds (without_doubt (opened duty past journal_a journal_b)) }
+    // A step within smaller limits is one within larger limits.
+    ensures larger { (small large : Bounds) (w v : World L.Entry)
+        (event : Event L.Entry L.Request) (outcome : Outcome L.Reply)
+        → small.frames ≤ large.frames → small.last_epoch ≤ large.last_epoch
+        → Step L.due L.form small w event outcome v → Step L.due L.form large w event outcome v }
 {}
 
 /// The epochs of the term, the longest run of last duties with one holder, are those from its first to the present one.

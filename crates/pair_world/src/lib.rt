@@ -10,7 +10,7 @@ mod worked;
 
 pub use laws::{
     Entries, crashes_lose_nothing, faults_come_from_steps, history_only_grows, limits_hold,
-    refusals_change_nothing, terms_have_no_gaps, worlds_stay_sound,
+    refusals_change_nothing, sound_worlds_are_legal, terms_have_no_gaps, worlds_stay_sound,
 };
 pub use needed::{
     acknowledged_is_needed, agreement_follows, booked_is_needed, current_is_needed,
