@@ -5,7 +5,7 @@ use Rattle.std.proofs.lemmas.List.{take_all, length_push}
 use Rattle.std.proofs.lemmas.Bool.{and_parts}
 use Rattle.std.proofs.lemmas.Bool.Decides.{nat_tests}
 use Rattle.pair_world.specs.Frames.{Frame, epoch_at, Begins, Shares, Agree, Rising}
-use Rattle.pair_world.specs.World.{Shipment}
+use Rattle.pair_world.specs.World.{told_by, Shipment}
 use Rattle.pair_world.specs.Deliveries.{Answer, Behind, Have, Cut, Stored, Have_end, differs_before, old_next, answer_in}
 use Rattle.pair_world.specs.SoundWorld.{Tells}
 use Rattle.pair_world.proofs.Parts.{UncommittedSuffix, Follows}
@@ -57,17 +57,17 @@ module _ {E : Type 0} (since top : ℕ) (xs ys : List (Frame E)) (x : Shipment E
           up : (m : ℕ) → (m ≤ n) ⊎ (suc n ≤ m)
           up m = grind arith
 
-  same_before : differs_before ys x ≡ false → epoch_at xs x.preceding ≡ epoch_at ys x.preceding
+  same_before : differs_before ys (told_by x) ≡ false → epoch_at xs x.preceding ≡ epoch_at ys x.preceding
   same_before h = by_place x.preceding before h
     where
       by_place : (p : ℕ) → x.before ≡ epoch_at xs p → (nat_lt 0 p && not (epoch_at ys p == x.before)) ≡ false → epoch_at xs p ≡ epoch_at ys p
       by_place zero b h = refl
       by_place (suc p) b h = grind (arith, nat_tests)
 
-  shares_before : differs_before ys x ≡ false → x.preceding ≤ length xs → x.preceding ≤ length ys → Shares x.preceding xs ys
+  shares_before : differs_before ys (told_by x) ≡ false → x.preceding ≤ length xs → x.preceding ≤ length ys → Shares x.preceding xs ys
   shares_before h left right = Agree-Shares agree x.preceding left right (same_before h)
 
-  cut_before : differs_before ys x ≡ true → x.preceding ≤ length ys → CutFits (x.preceding - 1) xs ys
+  cut_before : differs_before ys (told_by x) ≡ true → x.preceding ≤ length ys → CutFits (x.preceding - 1) xs ys
   cut_before h right = by_place x.preceding before h right
     where
       by_place : (p : ℕ) → x.before ≡ epoch_at xs p → (nat_lt 0 p && not (epoch_at ys p == x.before)) ≡ true → p ≤ length ys → CutFits (p - 1) xs ys
@@ -85,7 +85,7 @@ module _ {E : Type 0} (since top : ℕ) (xs ys : List (Frame E)) (x : Shipment E
       let whole : Shares (suc x.preceding) xs (ys ++ f ∷ []) = record { left = n.0; right = omega arith; front = more ∙ sym (take_all (suc x.preceding) (ys ++ f ∷ []) (omega arith)) } in
       (record { before = Shares-Begins shared (sym len); after = Shares-Begins whole (sym long) }, len, whole)
 
-  end_begins : Shares x.preceding xs ys → old_next ys x ≡ false → Begins xs ys
+  end_begins : Shares x.preceding xs ys → old_next ys (told_by x) ≡ false → Begins xs ys
   end_begins shared young = elim follows [ inl b ↦ b | inr t ↦ by_suffix t ]
     where
       by_suffix : UncommittedSuffix since xs ys → Begins xs ys
@@ -107,7 +107,7 @@ module _ {E : Type 0} (since top : ℕ) (xs ys : List (Frame E)) (x : Shipment E
           least_next : suc x.preceding ≤ length ys → x.epoch ≤ epoch_at ys (suc x.preceding)
           least_next right = grind (arith, nat_tests)
 
-  pub answer_fits : (o : Option (Frame E)) → Tells xs x o → x.preceding ≤ length ys → Fits since xs ys x (answer_in ys x o)
+  pub answer_fits : (o : Option (Frame E)) → Tells xs x o → x.preceding ≤ length ys → Fits since xs ys x (answer_in ys (told_by x) o)
   answer_fits (Some f) says fits =
       let n = nth_more xs x.preceding f says in
       by_test (Fits since xs ys x) (nat_lt x.preceding (length ys)) _ _
@@ -120,15 +120,15 @@ module _ {E : Type 0} (since top : ℕ) (xs ys : List (Frame E)) (x : Shipment E
       grind (arith, nat_tests, epoch_is xs x.preceding f says))))
       (λ short.
       let len : length ys ≡ x.preceding = grind (arith, nat_tests) in
-      by_test (Fits since xs ys x) (differs_before ys x) _ _
+      by_test (Fits since xs ys x) (differs_before ys (told_by x)) _ _
       (λ differs. cut_before differs fits)
       (λ same. stored_fits f says len (shares_before same (omega arith) fits)))
   answer_fits None says fits =
-      by_test (Fits since xs ys x) (differs_before ys x) _ _
+      by_test (Fits since xs ys x) (differs_before ys (told_by x)) _ _
       (λ differs. cut_before differs fits)
       (λ same.
       let shared = shares_before same says.0 fits in
-      by_test (Fits since xs ys x) (old_next ys x) _ _
+      by_test (Fits since xs ys x) (old_next ys (told_by x)) _ _
       (λ old.
       let parts = and_parts (nat_lt x.preceding (length ys)) (nat_lt (epoch_at ys (suc x.preceding)) x.epoch) old in
       let right : suc x.preceding ≤ length ys = grind (arith, nat_tests, parts.0) in

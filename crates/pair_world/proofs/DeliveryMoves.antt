@@ -8,8 +8,9 @@ use Rattle.ali_base.specs.declared.duty.Mode.{Mode}
 use Rattle.ali_base.specs.declared.duty.Mode.TheVariants.{Both, Alone}
 use Rattle.ali_base.specs.declared.duty.Duty.{Duty}
 use Rattle.pair_world.specs.Frames.{Frame, Begins, Shares, In}
-use Rattle.pair_world.specs.World.{other, Shipment, Ack, Message, Ships, Acks, term_from}
-use Rattle.pair_world.specs.Deliveries.{Answer, Behind, Have, Cut, Stored, Have_end, answer_in, answer, journal_after, ack_end, with_ack}
+use Rattle.pair_world.specs.World.{told_by, other, Shipment, Ack, Message, Ships, Acks, term_from}
+use Rattle.pair_world.specs.Deliveries.{Answer, Behind, Have, Cut, Stored, Have_end, answer_in, answer, journal_after, ack_end}
+use Rattle.pair_world.specs.Changes.{with_ack}
 use Rattle.pair_world.specs.SoundWorld.{HasEnd, AckHolds}
 use Rattle.pair_world.proofs.Parts.{Follows, InStep, Parts}
 use Rattle.pair_world.proofs.Items.{by_test, bool_is, suc_is, which}
@@ -47,11 +48,11 @@ module _ {E : Type 0} {due : List E → E → Type 0} {d : Duty} {ds : List Duty
   answer_ack x (Stored f) fits end is = subst (λ b. AckHolds b x.preceding xs (ys ++ f ∷ [])) (bool_is false end is) fits.2
   answer_ack x Have_end fits end is = subst (λ b. AckHolds b x.preceding xs ys) (bool_is true end is) (record { shares = fits.0; begins = fits.1 })
 
-  pub shipment_fits : (x : Shipment E) → In ms (Ships x) → known_by (other x.sender) ≤ x.epoch → Fits (term_from d ds) xs ys x (answer ys x)
+  pub shipment_fits : (x : Shipment E) → In ms (Ships x) → known_by (other x.sender) ≤ x.epoch → Fits (term_from d ds) xs ys x (answer ys (told_by x))
   unfolding answer
   shipment_fits x i later =
       let o = p.ships x i later in
-      by_test (Fits (term_from d ds) xs ys x) (nat_lt (length ys) x.preceding) Behind (answer_in ys x x.frame)
+      by_test (Fits (term_from d ds) xs ys x) (nat_lt (length ys) x.preceding) Behind (answer_in ys (told_by x) x.frame)
       (λ behind. tt)
       (λ not_behind. answer_fits (term_from d ds) d.epoch xs ys x (follows d.mode p.step) p.agree p.time.others o.before o.term x.frame o.frame (grind (arith, nat_tests)))
     where

@@ -9,7 +9,7 @@ use Rattle.ali_base.specs.declared.duty.Mode.{Mode}
 use Rattle.ali_base.specs.declared.duty.Mode.TheVariants.{Both, Alone}
 use Rattle.ali_base.specs.declared.duty.Duty.{Duty}
 use Rattle.pair_world.specs.Frames.{Frame, item_at, epoch_at, Begins, OnItem}
-use Rattle.pair_world.specs.World.{other, is_node, Shipment, Message, Ships, Acks, NodeState, Nodes, node_at, put_node, Resolved, own, known, is_up, with_nodes, with_duty, recovered, FailedWrites, failed_write_at, put_failed_write, World, Choice, choice_at, picked_node, picked_nodes, unrecovered}
+use Rattle.pair_world.specs.World.{told_by, other, is_node, Shipment, Message, Ships, Acks, NodeState, Nodes, node_at, put_node, Resolved, own, known, is_up, with_nodes, with_duty, recovered, FailedWrites, failed_write_at, put_failed_write, World, Choice, choice_at, picked_node, picked_nodes, unrecovered}
 use Rattle.pair_world.specs.Deliveries.{answer, journal_after}
 use Rattle.pair_world.specs.Changes.{journal_written, written, shipped, shipment_delivered, delivered, booked_next, new_duty, duty_changed, node_down, stopped, epoch_heard}
 use Rattle.pair_world.specs.Step.{Event, Write, Ship, Deliver, Drop, Book, Take, Go_alone, Pair_up, Stop, Start, Start_duty, Ask, Bounds, CanWrite, CanStore, CanDeliver, CanLeavePair, CanPair, ResolvedStep}
@@ -159,7 +159,7 @@ module _ {E : Type 0} (due : List E → E → Type 0) (w : World E) (s : IsKept 
       let x = w.base in
       let r = other m.sender in
       let old = node_at w.base.nodes (other m.sender) in
-      let state : NodeState E = record (node_at w.base.nodes (other m.sender)) { known = max (node_at w.base.nodes (other m.sender)).known m.epoch; journal = journal_after (node_at w.base.nodes (other m.sender)).journal (answer (node_at w.base.nodes (other m.sender)).journal m) } in
+      let state : NodeState E = record (node_at w.base.nodes (other m.sender)) { known = max (node_at w.base.nodes (other m.sender)).known m.epoch; journal = journal_after (node_at w.base.nodes (other m.sender)).journal (answer (node_at w.base.nodes (other m.sender)).journal (told_by m)) } in
       ap (λ ns. with_nodes (shipment_delivered x m old) ns) (picked_put c w.failed_writes x.nodes r state (s.one_journal r up))
       ∙ ap (λ (st : NodeState E). shipment_delivered (unrecovered c w) m st) (sym (own_is c r up))
 

@@ -7,7 +7,7 @@ use Rattle.ali_base.specs.declared.duty.Mode.{Mode}
 use Rattle.ali_base.specs.declared.duty.Mode.TheVariants.{Both, Alone}
 use Rattle.ali_base.specs.declared.duty.Duty.{Duty}
 use Rattle.pair_world.specs.Frames.{Frame, item_at, In, without}
-use Rattle.pair_world.specs.World.{other, is_node, Shipment, Message, Ships, Acks, NodeState, node_at, put_node, Resolved, own, holder_journal, is_up, with_nodes, with_node, with_duty, recovered, failed_write_at, World, Choice, choice_at, picked_node, picked_nodes, with_failed_duty, unrecovered}
+use Rattle.pair_world.specs.World.{told_by, other, is_node, Shipment, Message, Ships, Acks, NodeState, node_at, put_node, Resolved, own, holder_journal, is_up, with_nodes, with_node, with_duty, recovered, failed_write_at, World, Choice, choice_at, picked_node, picked_nodes, with_failed_duty, unrecovered}
 use Rattle.pair_world.specs.Deliveries.{answer, journal_after}
 use Rattle.pair_world.specs.Changes.{node_down, journal_written, written, shipped, delivered, booked_next, new_duty, duty_changed, stopped, started, register_started, epoch_heard, read_failed, write_failed, register_failed}
 use Rattle.pair_world.specs.Step.{Event, Write, Ship, Deliver, Drop, Book, Take, Go_alone, Pair_up, Stop, Start, Start_duty, Ask, Bounds, CanWrite, CanStore, CanDeliver, CanLeavePair, CanPair, ResolvedStep}
@@ -106,11 +106,11 @@ module _ {E : Type 0} (due : List E → E → Type 0) (w : World E) (s : IsKept 
       (λ c. subst (λ (st : NodeState E). IsParts due (with_node (unrecovered c w) h (record { up = false; known = st.known; journal = st.journal ++ record { entry = e; epoch = x.duty.epoch } ∷ [] }))) (own_is due w s c h g.up)
       (write_as due (unrecovered c w) (s.unrecovered_parts c) false e (to_own due w s (λ st. length st.journal ≡ length x.booked) c h g.up g.free) g.next))
 
-  pub store_fails : (m : Shipment E) → In w.base.messages (Ships m) → w.register_up ≡ true → CanStore w.base m → IsKept due (write_failed w (other m.sender) (journal_after (node_at w.base.nodes (other m.sender)).journal (answer (node_at w.base.nodes (other m.sender)).journal m)))
+  pub store_fails : (m : Shipment E) → In w.base.messages (Ships m) → w.register_up ≡ true → CanStore w.base m → IsKept due (write_failed w (other m.sender) (journal_after (node_at w.base.nodes (other m.sender)).journal (answer (node_at w.base.nodes (other m.sender)).journal (told_by m))))
   store_fails m i reg g =
       let r = other m.sender in
-      write_failed_kept r (journal_after (node_at w.base.nodes (other m.sender)).journal (answer (node_at w.base.nodes (other m.sender)).journal m)) reg g.up
-      (λ c. subst (λ (st : NodeState E). IsParts due (with_node (unrecovered c w) (other m.sender) (record { up = false; known = st.known; journal = journal_after st.journal (answer st.journal m) }))) (own_is due w s c (other m.sender) g.up)
+      write_failed_kept r (journal_after (node_at w.base.nodes (other m.sender)).journal (answer (node_at w.base.nodes (other m.sender)).journal (told_by m))) reg g.up
+      (λ c. subst (λ (st : NodeState E). IsParts due (with_node (unrecovered c w) (other m.sender) (record { up = false; known = st.known; journal = journal_after st.journal (answer st.journal (told_by m)) }))) (own_is due w s c (other m.sender) g.up)
       (moved_as due (unrecovered c w) (s.unrecovered_parts c) false m i (to_own due w s (λ st. st.known ≤ m.epoch) c (other m.sender) g.up g.not_stale)))
 
   -- the register fails in a change of duty

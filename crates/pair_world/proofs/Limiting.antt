@@ -9,8 +9,9 @@ use Rattle.ali_base.specs.declared.duty.Mode.{Mode}
 use Rattle.ali_base.specs.declared.duty.Mode.TheVariants.{Both, Alone}
 use Rattle.ali_base.specs.declared.duty.Duty.{Duty}
 use Rattle.pair_world.specs.Frames.{Frame, item_at, epoch_at, In, without}
-use Rattle.pair_world.specs.World.{other, Shipment, Ack, Message, Ships, Acks, NodeState, Nodes, node_at, put_node, Resolved, first_duty, own, holder_journal, known, with_duty, recovered, opened, formatted, FailedWrites, failed_write_at, put_failed_write, World, picked_node, with_failed_duty, without_doubt}
-use Rattle.pair_world.specs.Deliveries.{Answer, Behind, differs_before, old_next, answer_in, answer, journal_after, ack_end, with_ack}
+use Rattle.pair_world.specs.World.{told_by, other, Shipment, Ack, Message, Ships, Acks, NodeState, Nodes, node_at, put_node, Resolved, first_duty, own, holder_journal, known, with_duty, recovered, opened, formatted, FailedWrites, failed_write_at, put_failed_write, World, picked_node, with_failed_duty, without_doubt}
+use Rattle.pair_world.specs.Deliveries.{Answer, Behind, differs_before, old_next, answer_in, answer, journal_after, ack_end}
+use Rattle.pair_world.specs.Changes.{with_ack}
 use Rattle.pair_world.specs.Changes.{journal_written, written, shipment, shipped, ack_delivered, delivered, booked_next, new_duty, duty_changed, node_down, stopped, started, register_started, epoch_heard, read_failed, write_failed, register_failed}
 use Rattle.pair_world.specs.Step.{Event, Write, Ship, Deliver, Drop, Book, Take, Go_alone, Pair_up, Stop, Start, Start_duty, Ask, Outcome, Done, Answered, Refused, Faulted, Halted, Bounds, ResolvedStep, WorldStep, OnShipment, HearsEpoch, FailsToStore, Fails, Halts, Step, Turn, Runs}
 use Rattle.pair_world.specs.Limits.{IsEpoch, IsJournal, IsShipment, IsAck, IsWithin}
@@ -94,30 +95,30 @@ module _ {E : Type 0} (bounds : Bounds) where
       no_frame k f is = absurd (cc)
 
 -- a delivery leaves a journal within the limit
-answer_len : {E : Type 0} (bounds : Bounds) (journal : List (Frame E)) (x : Shipment E) → IsJournal bounds journal → IsShipment bounds x → IsJournal bounds (journal_after journal (answer journal x))
+answer_len : {E : Type 0} (bounds : Bounds) (journal : List (Frame E)) (x : Shipment E) → IsJournal bounds journal → IsShipment bounds x → IsJournal bounds (journal_after journal (answer journal (told_by x)))
 unfolding answer
 answer_len {E} bounds journal x h told =
-    by_test P (nat_lt (length journal) x.preceding) Behind (answer_in journal x x.frame)
+    by_test P (nat_lt (length journal) x.preceding) Behind (answer_in journal (told_by x) x.frame)
     (λ behind. h)
     (λ not_behind. by_frame x.frame refl not_behind)
   where
     P : Answer E → Type 0
     P a = IsJournal bounds (journal_after journal a)
 
-    by_frame : (o : Option (Frame E)) → x.frame ≡ o → nat_lt (length journal) x.preceding ≡ false → IsJournal bounds (journal_after journal (answer_in journal x o))
+    by_frame : (o : Option (Frame E)) → x.frame ≡ o → nat_lt (length journal) x.preceding ≡ false → IsJournal bounds (journal_after journal (answer_in journal (told_by x) o))
     by_frame (Some f) is not_behind =
         by_test (λ (a : Answer E). IsJournal bounds (journal_after journal a)) (nat_lt x.preceding (length journal)) _ _
         (λ long. by_test (λ (a : Answer E). IsJournal bounds (journal_after journal a)) (epoch_at journal (suc x.preceding) == f.epoch) _ _ (λ same. h) (λ apart. take_len bounds x.preceding journal h))
-        (λ short. by_test (λ (a : Answer E). IsJournal bounds (journal_after journal a)) (differs_before journal x) _ _
+        (λ short. by_test (λ (a : Answer E). IsJournal bounds (journal_after journal a)) (differs_before journal (told_by x)) _ _
         (λ differs. take_len bounds (x.preceding - 1) journal h)
         (λ same.
         let less = told.room f is in
         let len : length journal ≤ x.preceding = grind (arith, nat_tests) in
         push_len bounds journal f (omega arith) (told.frame f is) h))
     by_frame None is not_behind =
-        by_test (λ (a : Answer E). IsJournal bounds (journal_after journal a)) (differs_before journal x) _ _
+        by_test (λ (a : Answer E). IsJournal bounds (journal_after journal a)) (differs_before journal (told_by x)) _ _
         (λ differs. take_len bounds (x.preceding - 1) journal h)
-        (λ same. by_test (λ (a : Answer E). IsJournal bounds (journal_after journal a)) (old_next journal x) _ _ (λ old. take_len bounds x.preceding journal h) (λ young. h))
+        (λ same. by_test (λ (a : Answer E). IsJournal bounds (journal_after journal a)) (old_next journal (told_by x)) _ _ (λ old. take_len bounds x.preceding journal h) (λ young. h))
 
 module _ {E : Type 0} (due : List E → E → Type 0) (bounds : Bounds) (w : World E) (h : Within bounds w) where
   -- a world with this base and otherwise the same
@@ -184,10 +185,10 @@ module _ {E : Type 0} (due : List E → E → Type 0) (bounds : Bounds) (w : Wor
   delivered_within (Acks a) i = based (ack_delivered w.base a) h.firsts h.epoch h.ships h.acks
   delivered_within (Ships x) i =
       let r = other x.sender in
-      let st : NodeState E = record (node_at w.base.nodes (other x.sender)) { known = max (node_at w.base.nodes (other x.sender)).known x.epoch; journal = journal_after (node_at w.base.nodes (other x.sender)).journal (answer (node_at w.base.nodes (other x.sender)).journal x) } in
+      let st : NodeState E = record (node_at w.base.nodes (other x.sender)) { known = max (node_at w.base.nodes (other x.sender)).known x.epoch; journal = journal_after (node_at w.base.nodes (other x.sender)).journal (answer (node_at w.base.nodes (other x.sender)).journal (told_by x)) } in
       based (delivered w.base (Ships x)) (put_len bounds w.base.nodes r st (answer_len bounds (node_at w.base.nodes r).journal x (h.firsts r) (h.ships x i)) h.firsts) h.epoch
-      (with_ack_ships x (ack_end (answer (node_at w.base.nodes (other x.sender)).journal x)))
-      (with_ack_acks x (h.ships x i) (ack_end (answer (node_at w.base.nodes (other x.sender)).journal x)))
+      (with_ack_ships x (ack_end (answer (node_at w.base.nodes (other x.sender)).journal (told_by x))))
+      (with_ack_acks x (h.ships x i) (ack_end (answer (node_at w.base.nodes (other x.sender)).journal (told_by x))))
 
   as_it_is : (v u : World E) → v ≡ u → Within bounds u → Within bounds v
   as_it_is v u e k = subst (Within bounds) (sym e) k
@@ -308,7 +309,7 @@ module _ {E : Type 0} (due : List E → E → Type 0) (bounds : Bounds) (w : Wor
       by_message (Acks a) i g = absurd g
       by_message (Ships x) i g = elim g [
         | inl read ↦ falls_within (other x.sender) v read.1
-        | inr wrote ↦ as_it_is v _ wrote.1 (write_failed_within (other x.sender) (journal_after (node_at w.base.nodes (other x.sender)).journal (answer (node_at w.base.nodes (other x.sender)).journal x)) (answer_len bounds (node_at w.base.nodes (other x.sender)).journal x (h.firsts (other x.sender)) (h.ships x i)))
+        | inr wrote ↦ as_it_is v _ wrote.1 (write_failed_within (other x.sender) (journal_after (node_at w.base.nodes (other x.sender)).journal (answer (node_at w.base.nodes (other x.sender)).journal (told_by x))) (answer_len bounds (node_at w.base.nodes (other x.sender)).journal x (h.firsts (other x.sender)) (h.ships x i)))
       ]
   fails_within Book v g = falls_within w.base.duty.holder v g.2
   fails_within (Take n) v g = elim g.1 [

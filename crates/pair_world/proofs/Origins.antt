@@ -6,7 +6,7 @@ use Rattle.ali_base.specs.declared.names.NodeName.TheVariants.{A, B}
 use Rattle.ali_base.specs.declared.duty.Mode.TheVariants.{Both, Alone}
 use Rattle.ali_base.specs.declared.duty.Duty.{Duty}
 use Rattle.pair_world.specs.Frames.{Frame, item_at}
-use Rattle.pair_world.specs.World.{other, Shipment, Message, Ships, Acks, NodeState, Nodes, node_at, put_node, Resolved, is_up, with_nodes, with_node, with_duty, recovered, World, Choice, choice_at, picked_node, picked_nodes, with_failed_duty, unrecovered, resolved}
+use Rattle.pair_world.specs.World.{told_by, other, Shipment, Message, Ships, Acks, NodeState, Nodes, node_at, put_node, Resolved, is_up, with_nodes, with_node, with_duty, recovered, World, Choice, choice_at, picked_node, picked_nodes, with_failed_duty, unrecovered, resolved}
 use Rattle.pair_world.specs.Deliveries.{answer, journal_after}
 use Rattle.pair_world.specs.Changes.{journal_written, written, delivered, new_duty, duty_changed, node_down, read_failed, write_failed, register_failed}
 use Rattle.pair_world.specs.Step.{Event, Write, Ship, Deliver, Drop, Book, Take, Go_alone, Pair_up, Stop, Start, Start_duty, Ask, Bounds, CanWrite, CanStore, CanDeliver, ResolvedStep, OnShipment, FailsToStore, Fails}
@@ -116,23 +116,23 @@ module _ {E Q : Type 0} (due : List E → E → Type 0) (bounds : Bounds) (w : W
       ∙ sym (ap (λ ns. with_nodes w.base ns) (put_down (picked_nodes c w.failed_writes w.base.nodes) w.base.duty.holder (record (node_at (unrecovered c w).nodes w.base.duty.holder) { journal = journal_written (unrecovered c w) e })))))
       (λ is. fell due bounds w s (Write e) w.base.duty.holder (write_failed w w.base.duty.holder (journal_written w.base e)) c (stays due w s w.base.duty.holder (journal_written w.base e) c reg can.up is))
 
-  stored : (i : ℕ) (x : Shipment E) → item_at w.base.messages i ≡ Some (Ships x) → w.register_up ≡ true → CanStore w.base x → (c : Choice) → ComesFrom {Q = Q} due bounds (Deliver i) w (write_failed w (other x.sender) (journal_after (node_at w.base.nodes (other x.sender)).journal (answer (node_at w.base.nodes (other x.sender)).journal x))) c
+  stored : (i : ℕ) (x : Shipment E) → item_at w.base.messages i ≡ Some (Ships x) → w.register_up ≡ true → CanStore w.base x → (c : Choice) → ComesFrom {Q = Q} due bounds (Deliver i) w (write_failed w (other x.sender) (journal_after (node_at w.base.nodes (other x.sender)).journal (answer (node_at w.base.nodes (other x.sender)).journal (told_by x)))) c
   stored i x at reg can c =
-      by_bool (ComesFrom {Q = Q} due bounds (Deliver i) w (write_failed w (other x.sender) (journal_after (node_at w.base.nodes (other x.sender)).journal (answer (node_at w.base.nodes (other x.sender)).journal x))) c) (choice_at c (other x.sender))
-      (λ is. did_and_fell due bounds w s (Deliver i) (write_failed w (other x.sender) (journal_after (node_at w.base.nodes (other x.sender)).journal (answer (node_at w.base.nodes (other x.sender)).journal x))) c
-      (with_node (unrecovered c w) (other x.sender) (record (node_at (unrecovered c w).nodes (other x.sender)) { journal = journal_after (node_at (unrecovered c w).nodes (other x.sender)).journal (answer (node_at (unrecovered c w).nodes (other x.sender)).journal x) }))
+      by_bool (ComesFrom {Q = Q} due bounds (Deliver i) w (write_failed w (other x.sender) (journal_after (node_at w.base.nodes (other x.sender)).journal (answer (node_at w.base.nodes (other x.sender)).journal (told_by x)))) c) (choice_at c (other x.sender))
+      (λ is. did_and_fell due bounds w s (Deliver i) (write_failed w (other x.sender) (journal_after (node_at w.base.nodes (other x.sender)).journal (answer (node_at w.base.nodes (other x.sender)).journal (told_by x)))) c
+      (with_node (unrecovered c w) (other x.sender) (record (node_at (unrecovered c w).nodes (other x.sender)) { journal = journal_after (node_at (unrecovered c w).nodes (other x.sender)).journal (answer (node_at (unrecovered c w).nodes (other x.sender)).journal (told_by x)) }))
       (other x.sender) reg
       (record {
         done = delivered (unrecovered c w) (Ships x);
         does = on_same due w s (item_at w.base.messages i) (λ m. CanDeliver (unrecovered c w) m × (delivered (unrecovered c w) (Ships x) ≡ delivered (unrecovered c w) m)) (Ships x) at (can_store due w s x c can, refl);
         same = refl;
         messages = inr refl;
-        states = λ n. states_are (picked_nodes c w.failed_writes w.base.nodes) (other x.sender) n (max (node_at (unrecovered c w).nodes (other x.sender)).known x.epoch) (journal_after (node_at (unrecovered c w).nodes (other x.sender)).journal (answer (node_at (unrecovered c w).nodes (other x.sender)).journal x));
+        states = λ n. states_are (picked_nodes c w.failed_writes w.base.nodes) (other x.sender) n (max (node_at (unrecovered c w).nodes (other x.sender)).known x.epoch) (journal_after (node_at (unrecovered c w).nodes (other x.sender)).journal (answer (node_at (unrecovered c w).nodes (other x.sender)).journal (told_by x)));
       })
-      (lands due w s (other x.sender) (journal_after (node_at w.base.nodes (other x.sender)).journal (answer (node_at w.base.nodes (other x.sender)).journal x)) c reg can.up is
-      ∙ ap (λ (st : NodeState E). with_node (unrecovered c w) (other x.sender) (record (node_at (unrecovered c w).nodes (other x.sender)) { up = false; journal = journal_after st.journal (answer st.journal x) })) (sym (own_is due w s c (other x.sender) can.up))
-      ∙ sym (ap (λ ns. with_nodes w.base ns) (put_down (picked_nodes c w.failed_writes w.base.nodes) (other x.sender) (record (node_at (unrecovered c w).nodes (other x.sender)) { journal = journal_after (node_at (unrecovered c w).nodes (other x.sender)).journal (answer (node_at (unrecovered c w).nodes (other x.sender)).journal x) })))))
-      (λ is. fell due bounds w s (Deliver i) (other x.sender) (write_failed w (other x.sender) (journal_after (node_at w.base.nodes (other x.sender)).journal (answer (node_at w.base.nodes (other x.sender)).journal x))) c (stays due w s (other x.sender) (journal_after (node_at w.base.nodes (other x.sender)).journal (answer (node_at w.base.nodes (other x.sender)).journal x)) c reg can.up is))
+      (lands due w s (other x.sender) (journal_after (node_at w.base.nodes (other x.sender)).journal (answer (node_at w.base.nodes (other x.sender)).journal (told_by x))) c reg can.up is
+      ∙ ap (λ (st : NodeState E). with_node (unrecovered c w) (other x.sender) (record (node_at (unrecovered c w).nodes (other x.sender)) { up = false; journal = journal_after st.journal (answer st.journal (told_by x)) })) (sym (own_is due w s c (other x.sender) can.up))
+      ∙ sym (ap (λ ns. with_nodes w.base ns) (put_down (picked_nodes c w.failed_writes w.base.nodes) (other x.sender) (record (node_at (unrecovered c w).nodes (other x.sender)) { journal = journal_after (node_at (unrecovered c w).nodes (other x.sender)).journal (answer (node_at (unrecovered c w).nodes (other x.sender)).journal (told_by x)) })))))
+      (λ is. fell due bounds w s (Deliver i) (other x.sender) (write_failed w (other x.sender) (journal_after (node_at w.base.nodes (other x.sender)).journal (answer (node_at w.base.nodes (other x.sender)).journal (told_by x)))) c (stays due w s (other x.sender) (journal_after (node_at w.base.nodes (other x.sender)).journal (answer (node_at w.base.nodes (other x.sender)).journal (told_by x))) c reg can.up is))
 
   changed : (event : Event E Q) (d : Duty) (u : (c : Choice) → Resolved E) → w.register_up ≡ true → ((c : Choice) → ResolvedStep due bounds (unrecovered c w) event (u c)) → ((c : Choice) → u c ≡ recovered (with_duty (unrecovered c w) d)) → (c : Choice) → ComesFrom due bounds event w (register_failed w d) c
   changed event d u reg does is c =

@@ -9,8 +9,9 @@ use Rattle.ali_base.specs.declared.duty.Mode.{Mode}
 use Rattle.ali_base.specs.declared.duty.Mode.TheVariants.{Both, Alone}
 use Rattle.ali_base.specs.declared.duty.Duty.{Duty}
 use Rattle.pair_world.specs.Frames.{Frame, entries, item_at, epoch_at, Begins, Shares, In, without}
-use Rattle.pair_world.specs.World.{other, is_node, Shipment, Message, Ships, Acks, NodeState, Nodes, node_at, put_node, Resolved, term_from, own, holder_journal, other_journal, known, with_node, recovered, booked_at_start, opened, formatted}
-use Rattle.pair_world.specs.Deliveries.{answer, journal_after, ack_end, with_ack}
+use Rattle.pair_world.specs.World.{told_by, other, is_node, Shipment, Message, Ships, Acks, NodeState, Nodes, node_at, put_node, Resolved, term_from, own, holder_journal, other_journal, known, with_node, recovered, booked_at_start, opened, formatted}
+use Rattle.pair_world.specs.Deliveries.{answer, journal_after, ack_end}
+use Rattle.pair_world.specs.Changes.{with_ack}
 use Rattle.pair_world.specs.Changes.{journal_written, written, shipment, shipped, delivered, booked_next, duty_changed, stopped, epoch_heard}
 use Rattle.pair_world.specs.Step.{Event, Write, Ship, Deliver, Drop, Book, Take, Go_alone, Pair_up, Stop, Start, Start_duty, Ask, Bounds, nothing_pending, CanDeliver, ResolvedStep}
 use Rattle.pair_world.specs.SoundWorld.{Named}
@@ -99,14 +100,14 @@ module _ {E : Type 0} (due : List E → E → Type 0) (w : Resolved E) (sound : 
       let q = put_known w.duty.holder s (omega arith) (sound.known.none_later w.duty.holder) in
       put_own w.nodes w.duty.holder s (keeps_written q (record { entry = e; epoch = w.duty.epoch }) refl none (own_due e none next))
 
-  pub moved_as : (u : Bool) (x : Shipment E) → In w.messages (Ships x) → known w (other x.sender) ≤ x.epoch → IsParts due (with_node w (other x.sender) (record { up = u; known = known w (other x.sender); journal = journal_after (node_at w.nodes (other x.sender)).journal (answer (node_at w.nodes (other x.sender)).journal x) }))
+  pub moved_as : (u : Bool) (x : Shipment E) → In w.messages (Ships x) → known w (other x.sender) ≤ x.epoch → IsParts due (with_node w (other x.sender) (record { up = u; known = known w (other x.sender); journal = journal_after (node_at w.nodes (other x.sender)).journal (answer (node_at w.nodes (other x.sender)).journal (told_by x)) }))
   moved_as u x i later =
       let o = sound.ships x i later in
-      subst (λ r. IsParts due (with_node w r (record { up = u; known = known w r; journal = journal_after (node_at w.nodes r).journal (answer (node_at w.nodes r).journal x) }))) (sym (ap other o.sender))
-      (let s : NodeState E = record { up = u; known = known w (other w.duty.holder); journal = journal_after (other_journal w) (answer (other_journal w) x) } in
+      subst (λ r. IsParts due (with_node w r (record { up = u; known = known w r; journal = journal_after (node_at w.nodes r).journal (answer (node_at w.nodes r).journal (told_by x)) }))) (sym (ap other o.sender))
+      (let s : NodeState E = record { up = u; known = known w (other w.duty.holder); journal = journal_after (other_journal w) (answer (other_journal w) (told_by x)) } in
       let fits = shipment_fits sound x i later in
       let q = put_known (other w.duty.holder) s (omega arith) (sound.known.none_later (other w.duty.holder)) in
-      put_others w.nodes w.duty.holder s (keeps_answer q x (answer (other_journal w) x) fits))
+      put_others w.nodes w.duty.holder s (keeps_answer q x (answer (other_journal w) (told_by x)) fits))
 
   pub down_sound : (n : NodeName) → IsParts due (with_node w n (record (node_at w.nodes n) { up = false }))
   down_sound n =
@@ -130,24 +131,24 @@ module _ {E : Type 0} (due : List E → E → Type 0) (w : Resolved E) (sound : 
   deliver_sound (Ships x) i taken =
       let o = sound.ships x i taken.not_stale in
       subst (λ r. IsParts due (record w {
-        nodes = put_node w.nodes r (record (node_at w.nodes r) { known = max (node_at w.nodes r).known x.epoch; journal = journal_after (node_at w.nodes r).journal (answer (node_at w.nodes r).journal x) });
-        messages = with_ack x (ack_end (answer (node_at w.nodes r).journal x)) w.messages;
+        nodes = put_node w.nodes r (record (node_at w.nodes r) { known = max (node_at w.nodes r).known x.epoch; journal = journal_after (node_at w.nodes r).journal (answer (node_at w.nodes r).journal (told_by x)) });
+        messages = with_ack x (ack_end (answer (node_at w.nodes r).journal (told_by x))) w.messages;
       })) (sym (ap other o.sender)) to_other
     where
       to : NodeName
       to = other w.duty.holder
 
       to_other : IsParts due (record w {
-        nodes = put_node w.nodes (other w.duty.holder) (record (node_at w.nodes (other w.duty.holder)) { known = max (node_at w.nodes (other w.duty.holder)).known x.epoch; journal = journal_after (node_at w.nodes (other w.duty.holder)).journal (answer (node_at w.nodes (other w.duty.holder)).journal x) });
-        messages = with_ack x (ack_end (answer (node_at w.nodes (other w.duty.holder)).journal x)) w.messages;
+        nodes = put_node w.nodes (other w.duty.holder) (record (node_at w.nodes (other w.duty.holder)) { known = max (node_at w.nodes (other w.duty.holder)).known x.epoch; journal = journal_after (node_at w.nodes (other w.duty.holder)).journal (answer (node_at w.nodes (other w.duty.holder)).journal (told_by x)) });
+        messages = with_ack x (ack_end (answer (node_at w.nodes (other w.duty.holder)).journal (told_by x))) w.messages;
       })
       to_other =
-          let s : NodeState E = record (node_at w.nodes (other w.duty.holder)) { known = max (node_at w.nodes (other w.duty.holder)).known x.epoch; journal = journal_after (other_journal w) (answer (other_journal w) x) } in
+          let s : NodeState E = record (node_at w.nodes (other w.duty.holder)) { known = max (node_at w.nodes (other w.duty.holder)).known x.epoch; journal = journal_after (other_journal w) (answer (other_journal w) (told_by x)) } in
           let fits = shipment_fits sound x i taken.not_stale in
           let top = sound.time.ships x i in
           let q = put_known (other w.duty.holder) s (omega arith) (let k = own_top (other w.duty.holder) in omega arith) in
           put_others w.nodes w.duty.holder s
-          (keeps_told (keeps_answer q x (answer (other_journal w) x) fits) x top (ack_end (answer (other_journal w) x)) (answer_ack q x (answer (other_journal w) x) fits))
+          (keeps_told (keeps_answer q x (answer (other_journal w) (told_by x)) fits) x top (ack_end (answer (other_journal w) (told_by x))) (answer_ack q x (answer (other_journal w) (told_by x)) fits))
 
   pub steps_both : w.duty.mode ≡ Both → StepsBoth w.duty.epoch w.booked (holder_journal w) (other_journal w)
   steps_both both = subst (λ m. InStep m w.duty.epoch (term_from w.duty w.past) w.booked (holder_journal w) (other_journal w)) both sound.step

@@ -1,11 +1,11 @@
 -- What each event changes: the world after it, where it is done, and after a fault in it.
-use Rattle.std.specs.Prelude.{ℕ, suc, ◌-◌, max, List, [], ◌∷◌, ◌++◌, length, take, slice_get, Some, None, Bool, true, false, if◌then◌else◌}
+use Rattle.std.specs.Prelude.{ℕ, suc, max, List, [], ◌∷◌, ◌++◌, length, take, Option, Some, None, Bool, true, false, if◌then◌else◌}
 use Rattle.ali_base.specs.declared.names.NodeName.{NodeName}
 use Rattle.ali_base.specs.declared.duty.Mode.{Mode}
 use Rattle.ali_base.specs.declared.duty.Duty.{Duty}
-use Rattle.pair_world.specs.Frames.{Frame, epoch_at}
-use Rattle.pair_world.specs.World.{other, is_node, Shipment, Ack, Message, Ships, Acks, NodeState, node_at, put_node, Resolved, own, holder_journal, known, with_node, recovered, failed_write_at, put_failed_write, World, picked_node, with_failed_duty}
-use Rattle.pair_world.specs.Deliveries.{answer, journal_after, ack_end, with_ack}
+use Rattle.pair_world.specs.Frames.{Frame}
+use Rattle.pair_world.specs.World.{other, is_node, told_by, sent_by, acked_to, Shipment, Ack, Message, Ships, Acks, NodeState, node_at, put_node, Resolved, own, holder_journal, known, with_node, recovered, failed_write_at, put_failed_write, World, picked_node, with_failed_duty}
+use Rattle.pair_world.specs.Deliveries.{message_from, answer, journal_after, ack_end, ack_of, known_left}
 
 -- What the holder's journal is after a write.
 abbrev pub journal_written : {E : Type 0} → Resolved E → E → List (Frame E)
@@ -15,20 +15,18 @@ journal_written w entry = holder_journal w ++ record { entry = entry; epoch = w.
 abbrev pub written : {E : Type 0} → Resolved E → E → Resolved E
 written w entry = with_node w w.duty.holder (record (own w) { journal = journal_written w entry })
 
--- Frame k of the holder, or the end, with the epoch of the frame before it.
+-- Frame k of the holder, or the end, on its way.
 abbrev pub shipment : {E : Type 0} → Resolved E → ℕ → Shipment E
-shipment w k =
-    record {
-      sender = w.duty.holder;
-      epoch = w.duty.epoch;
-      preceding = k - 1;
-      before = epoch_at (holder_journal w) (k - 1);
-      frame = slice_get (holder_journal w) (k - 1);
-    }
+shipment w k = sent_by w.duty.holder (message_from w.duty.epoch (holder_journal w) k)
 
 -- The shipment of frame k is on its way.
 abbrev pub shipped : {E : Type 0} → Resolved E → ℕ → Resolved E
 shipped w k = record w { messages = w.messages ++ Ships (shipment w k) ∷ [] }
+
+-- The messages with the acknowledgement to a shipment, which goes to its sender.
+abbrev pub with_ack : {E : Type 0} → Shipment E → Option Bool → List (Message E) → List (Message E)
+with_ack x None messages = messages
+with_ack x (Some end) messages = messages ++ Acks (acked_to x.sender (ack_of (told_by x) end)) ∷ []
 
 -- The receiver answers by the table, and hears the epoch of the message.
 abbrev pub shipment_delivered : {E : Type 0} → Resolved E → Shipment E → NodeState E → Resolved E
@@ -36,10 +34,10 @@ shipment_delivered w x state =
     record w {
       nodes =
           put_node w.nodes (other x.sender) (record state {
-            known = max state.known x.epoch;
-            journal = journal_after state.journal (answer state.journal x);
+            known = known_left state.known (told_by x);
+            journal = journal_after state.journal (answer state.journal (told_by x));
           });
-      messages = with_ack x (ack_end (answer state.journal x)) w.messages;
+      messages = with_ack x (ack_end (answer state.journal (told_by x))) w.messages;
     }
 
 -- The acknowledgement of a frame counts it, that of the end counts the frames before it and the end.
@@ -58,7 +56,7 @@ delivered w (Acks ack) = ack_delivered w ack
 -- The receiver hears the epoch of the shipment, and nothing else changes.
 abbrev pub epoch_heard : {E : Type 0} → Resolved E → Shipment E → Resolved E
 epoch_heard w x =
-    with_node w (other x.sender) (record (node_at w.nodes (other x.sender)) { known = max (known w (other x.sender)) x.epoch })
+    with_node w (other x.sender) (record (node_at w.nodes (other x.sender)) { known = known_left (known w (other x.sender)) (told_by x) })
 
 -- The history grows by the frame of the holder past it.
 abbrev pub booked_next : {E : Type 0} → Resolved E → Resolved E
@@ -130,4 +128,4 @@ register_failed w duty = record w { register_up = false; failed_duty = Some duty
 -- What a delivery makes of the receiver's journal.
 abbrev pub journal_stored : {E : Type 0} → Resolved E → Shipment E → List (Frame E)
 journal_stored w x =
-    journal_after (node_at w.nodes (other x.sender)).journal (answer (node_at w.nodes (other x.sender)).journal x)
+    journal_after (node_at w.nodes (other x.sender)).journal (answer (node_at w.nodes (other x.sender)).journal (told_by x))

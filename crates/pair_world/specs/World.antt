@@ -6,6 +6,7 @@ use Rattle.ali_base.specs.declared.duty.Mode.{Mode}
 use Rattle.ali_base.specs.declared.duty.Mode.TheVariants.{Both, Alone}
 use Rattle.ali_base.specs.declared.duty.Duty.{Duty}
 use Rattle.pair_world.specs.Frames.{Frame}
+use Rattle.pair_world.specs.Deliveries.{NodeMessage, NodeAck}
 
 -- The other node.
 abbrev pub other : NodeName → NodeName
@@ -27,12 +28,25 @@ pub record Shipment (E : Type 0) : Type 0 where
   pub before : ℕ  -- the epoch of the sender's frame before it, 0 for none
   pub frame : Option (Frame E)  -- none for the end: the sender's journal had the preceding frames and no more
 
+-- What the shipment tells.
+abbrev pub told_by : {E : Type 0} → Shipment E → NodeMessage E
+told_by x = record { epoch = x.epoch; preceding = x.preceding; before = x.before; frame = x.frame }
+
+-- The message on its way from this node.
+abbrev pub sent_by : {E : Type 0} → NodeName → NodeMessage E → Shipment E
+sent_by sender m =
+    record { sender = sender; epoch = m.epoch; preceding = m.preceding; before = m.before; frame = m.frame }
+
 -- The answer to a shipment that was stored or found, on its way to the shipment's sender.
 pub record Ack : Type 0 where
   pub to : NodeName
   pub epoch : ℕ
   pub preceding : ℕ
   pub end : Bool
+
+-- The acknowledgement on its way to this node.
+abbrev pub acked_to : NodeName → NodeAck → Ack
+acked_to to ack = record { to = to; epoch = ack.epoch; preceding = ack.preceding; end = ack.end }
 
 -- What is on its way between the nodes.
 pub data Message (E : Type 0) : Type 0 where
