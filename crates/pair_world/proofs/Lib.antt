@@ -23,3 +23,5 @@ pub mod Computed
 pub mod WorkedRuns
 pub mod NeededRuns
 pub mod OtherParts
+pub mod DutyLists
+pub mod Received

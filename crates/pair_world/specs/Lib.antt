@@ -2,6 +2,7 @@ pub mod Frames
 pub mod World
 pub mod Deliveries
 pub mod Changes
+pub mod Replies
 pub mod Step
 pub mod SoundWorld
 pub mod FaultOrigin

@@ -1,5 +1,5 @@
 -- The replicated world: two nodes, their journals, the duty register and the messages between them.
-use Rattle.std.specs.Prelude.{ℕ, ◌≡◌, ◌⊎◌, min, List, [], ◌∷◌, length, take, slice_get, Option, Some, None, Bool, true, false, nat_lt, if◌then◌else◌}
+use Rattle.std.specs.Prelude.{ℕ, ◌≡◌, ◌⊎◌, min, List, [], ◌∷◌, ◌++◌, length, take, reverse, slice_get, Option, Some, None, Bool, true, false, nat_lt, if◌then◌else◌}
 use Rattle.ali_base.specs.declared.names.NodeName.{NodeName}
 use Rattle.ali_base.specs.declared.names.NodeName.TheVariants.{A, B}
 use Rattle.ali_base.specs.declared.duty.Mode.{Mode}
@@ -171,6 +171,19 @@ opened {E} duty past journal_a journal_b =
       ended = 0;
     }
 
+-- The duties as an image of the register has them: a list, the oldest first.
+abbrev pub duty_list : Duty → List Duty → List Duty
+duty_list duty past = reverse (duty ∷ past)
+
+-- The world at the start of a run, over duties the newest first; over a formatted register's where there are none.
+abbrev pub opened_newest : {E : Type 0} → List Duty → List (Frame E) → List (Frame E) → Resolved E
+opened_newest [] journal_a journal_b = opened first_duty [] journal_a journal_b
+opened_newest (duty ∷ past) journal_a journal_b = opened duty past journal_a journal_b
+
+-- The same over duties the oldest first, as the image of the register has them.
+abbrev pub opened_from : {E : Type 0} → List Duty → List (Frame E) → List (Frame E) → Resolved E
+opened_from duties journal_a journal_b = opened_newest (reverse duties) journal_a journal_b
+
 -- The world of formatted disks.
 abbrev pub formatted : {E : Type 0} → Resolved E
 formatted = opened first_duty [] [] []
@@ -205,6 +218,12 @@ MayHold w n journal = ((node_at w.base.nodes n).journal ≡ journal) ⊎ (failed
 abbrev pub MayRead : {E : Type 0} → World E → Duty → List Duty → Type 0
 MayRead w duty past =
     ((w.base.duty ≡ duty) × (w.base.past ≡ past)) ⊎ ((w.failed_duty ≡ Some duty) × (w.base.duty ∷ w.base.past ≡ past))
+
+-- The register may represent this list of duties, the oldest first.
+abbrev pub MayList : {E : Type 0} → World E → List Duty → Type 0
+MayList w duties =
+    (duty_list w.base.duty w.base.past ≡ duties)
+    ⊎ ((duty : Duty) × (w.failed_duty ≡ Some duty) × (duty_list w.base.duty w.base.past ++ duty ∷ [] ≡ duties))
 
 -- Which list of each disk is taken: true where the failed write lasted.
 pub record Choice : Type 0 where

@@ -1,0 +1,55 @@
+//! What a call of a node, or of the pair of two nodes, is in the world.
+ghost use Rattle.std.specs.Prelude.{◌≡◌, ◌<◌, ◌↔◌, ◌∷◌, [], ◌++◌, ℕ, suc, List, length, Some, true};
+ghost use Rattle.ali_base.specs.declared.duty.Duty.{Duty};
+ghost use Rattle.pair_world.specs.Frames.{Frame, item_at};
+ghost use Rattle.pair_world.specs.World.{other, Shipment, Ships, told_by, known, World, MayRead, MayList, duty_list, opened, opened_from};
+ghost use Rattle.pair_world.specs.Deliveries.{Told_stale, Told_behind, told_as, answer, Behind, journal_left};
+ghost use Rattle.pair_world.specs.Changes.{journal_stored};
+ghost use Rattle.pair_world.specs.Replies.{receiver, said, state_left, receiver_changed, receiver_answered};
+ghost use Rattle.pair_world.specs.Step.{Deliver, Bounds, WorldStep, Refuses, HearsEpoch, IsBehind, CanStore};
+
+use crate::laws::Entries;
+
+/// The duties of an image are one list, the oldest first; the world has the present one and those before it, the
+/// newest first. A run opens the same world over either.
+pub fn duties_are_one_list<L: Entries>()
+    ensures next { (duty next : Duty) (past : List Duty)
+        → duty_list next (duty ∷ past) ≡ duty_list duty past ++ next ∷ [] }
+    ensures opened { (duty : Duty) (past : List Duty) (journal_a journal_b : List (Frame L.Entry))
+        → opened_from (duty_list duty past) journal_a journal_b
+        ≡ opened duty past journal_a journal_b }
+    ensures read { (w : World L.Entry) (duty : Duty) (past : List Duty)
+        → MayRead w duty past ↔ MayList w (duty_list duty past) }
+    ensures list { (w : World L.Entry) (duties : List Duty) → MayList w duties
+        → (duty : Duty) × (past : List Duty)
+        × (duty_list duty past ≡ duties) × MayRead w duty past }
+{}
+
+/// A delivery is answered as the receiver alone answers it, and leaves it as that leaves it.
+pub fn deliveries_are_the_receivers<L: Entries>()
+    // STALE: nothing changes.
+    ensures stale { (w v : World L.Entry) (i : ℕ) (x : Shipment L.Entry)
+        → item_at w.base.messages i ≡ Some (Ships x) → x.epoch < known w.base (other x.sender)
+        → (said w.base x ≡ Told_stale x.epoch (known w.base (other x.sender)))
+        × (state_left (receiver w.base x) (told_by x) ≡ receiver w.base x)
+        × (Refuses {Q = L.Request} w (Deliver i) v → v ≡ w) }
+    // BEHIND: the known epoch rises, and nothing else changes.
+    ensures behind { (w : World L.Entry) (i : ℕ) (x : Shipment L.Entry)
+        → item_at w.base.messages i ≡ Some (Ships x) → w.register_up ≡ true → IsBehind w.base x
+        → (said w.base x
+            ≡ Told_behind (length (receiver w.base x).journal) (suc x.preceding))
+        × (journal_left (receiver w.base x).known (receiver w.base x).journal (told_by x)
+            ≡ (receiver w.base x).journal)
+        × HearsEpoch {Q = L.Request} w (Deliver i)
+            (record w { base = receiver_changed w.base x }) }
+    // All other answers: the delivery is done.
+    ensures done { (bounds : Bounds) (w : World L.Entry) (i : ℕ) (x : Shipment L.Entry)
+        → item_at w.base.messages i ≡ Some (Ships x) → w.register_up ≡ true → CanStore w.base x
+        → (said w.base x
+            ≡ told_as (receiver w.base x).journal (told_by x)
+                (answer (receiver w.base x).journal (told_by x)))
+        × (answer (receiver w.base x).journal (told_by x) ≡ Behind → ⊥)
+        × (journal_stored w.base x ≡ (state_left (receiver w.base x) (told_by x)).journal)
+        × WorldStep {Q = L.Request} L.due bounds w (Deliver i)
+            (record w { base = receiver_answered w.base x }) }
+{}
