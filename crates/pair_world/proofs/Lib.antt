@@ -25,3 +25,5 @@ pub mod NeededRuns
 pub mod OtherParts
 pub mod DutyLists
 pub mod Received
+pub mod RowTests
+pub mod ExactRows

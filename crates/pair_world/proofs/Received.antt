@@ -84,14 +84,19 @@ module _ {E : Type 0} (w : World E) (i : ℕ) (x : Shipment E) (at : item_at w.b
   behind_left g = fresh_left w.base x g.not_stale ∙ ap (journal_after (receiver w.base x).journal) (behind_is (receiver w.base x).journal (told_by x) g.behind)
 
   pub behind_heard : w.register_up ≡ true → IsBehind w.base x → HearsEpoch {Q = Unit {0}} w (Deliver i) (record w { base = receiver_changed w.base x })
-  behind_heard reg g =
-      (reg, subst (λ o. OnItem o (λ m. OnShipment m (λ y. IsBehind w.base y × (record w { base = receiver_changed w.base x } ≡ record w { base = epoch_heard w.base y })))) (sym at)
-      (g, ap (λ j. record w { base = with_node w.base (other x.sender) (record (receiver w.base x) { known = known_left (receiver w.base x).known (told_by x); journal = j }) }) (behind_left g)))
+  behind_heard reg g = (
+    reg,
+    subst (λ o. OnItem o (λ m. OnShipment m (λ y. IsBehind w.base y × (record w { base = receiver_changed w.base x } ≡ record w { base = epoch_heard w.base y })))) (sym at)
+        (g, ap (λ j. record w { base = with_node w.base (other x.sender) (record (receiver w.base x) { known = known_left (receiver w.base x).known (told_by x); journal = j }) }) (behind_left g)),
+  )
 
   pub taken_done : (due : List E → E → Type 0) (bounds : Bounds) → w.register_up ≡ true → CanStore w.base x → WorldStep {Q = Unit {0}} due bounds w (Deliver i) (record w { base = receiver_answered w.base x })
-  taken_done due bounds reg g =
-      (reg, subst (λ o. OnItem o (λ m. CanDeliver w.base m × (receiver_answered w.base x ≡ delivered w.base m))) (sym at)
-      (g, ap (λ j. record w.base { nodes = put_node w.base.nodes (other x.sender) (record (receiver w.base x) { known = known_left (receiver w.base x).known (told_by x); journal = j }); messages = with_ack x (ack_end (answer (receiver w.base x).journal (told_by x))) w.base.messages }) (fresh_left w.base x g.not_stale)), refl)
+  taken_done due bounds reg g = (
+    reg,
+    subst (λ o. OnItem o (λ m. CanDeliver w.base m × (receiver_answered w.base x ≡ delivered w.base m))) (sym at)
+        (g, ap (λ j. record w.base { nodes = put_node w.base.nodes (other x.sender) (record (receiver w.base x) { known = known_left (receiver w.base x).known (told_by x); journal = j }); messages = with_ack x (ack_end (answer (receiver w.base x).journal (told_by x))) w.base.messages }) (fresh_left w.base x g.not_stale)),
+    refl,
+  )
 
   pub taken_not_behind : CanStore w.base x → answer (receiver w.base x).journal (told_by x) ≡ Behind → ⊥
   taken_not_behind g = not_behind (receiver w.base x).journal (told_by x) g.not_behind

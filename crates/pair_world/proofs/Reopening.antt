@@ -124,15 +124,23 @@ module _ {E : Type 0} (due : List E → E → Type 0) (w : World E) (s : IsKept 
   pub base_sound : IsParts due w.base
   base_sound = subst (IsParts due) (first_is first_choice refl refl) (s.unrecovered_parts first_choice)
 
+  -- a list that a disk may hold is its node's in some resolution
+  in_choice : (P : List (Frame E) → Type 0) (n : NodeName) (j : List (Frame E)) → MayHold w n j → ((c : Choice) → P (node_at (unrecovered c w).nodes n).journal) → P j
+  in_choice P n j may all =
+      let h = held n j may in
+      by_node n h.0 h.1 all
+    where
+      by_node : (n : NodeName) (b : Bool) → (picked_node (failed_write_at w.failed_writes n) b (node_at w.base.nodes n)).journal ≡ j → ((c : Choice) → P (node_at (unrecovered c w).nodes n).journal) → P j
+      by_node A b is all = subst P is (all (record { a = b; b = false; duty = false }))
+      by_node B b is all = subst P is (all (record { a = false; b = b; duty = false }))
+
   -- in mode Both the history is in each journal
   pub held_begins : (n : NodeName) (j : List (Frame E)) → w.base.duty.mode ≡ Both → MayHold w n j → Begins j w.base.booked
-  held_begins n j both may =
-      let h = held n j may in
-      by_choice n h.0 h.1
-    where
-      by_choice : (n : NodeName) (b : Bool) → (picked_node (failed_write_at w.failed_writes n) b (node_at w.base.nodes n)).journal ≡ j → Begins j w.base.booked
-      by_choice A b is = let c : Choice = record { a = b; b = false; duty = false } in subst (λ z. Begins z w.base.booked) is (both_begin due (unrecovered (record { a = b; b = false; duty = false }) w) (s.unrecovered_parts c) both A)
-      by_choice B b is = let c : Choice = record { a = false; b = b; duty = false } in subst (λ z. Begins z w.base.booked) is (both_begin due (unrecovered (record { a = false; b = b; duty = false }) w) (s.unrecovered_parts c) both B)
+  held_begins n j both may = in_choice (λ z. Begins z w.base.booked) n j may (λ c. both_begin due (unrecovered c w) (s.unrecovered_parts c) both n)
+
+  -- and always in the holder's
+  pub own_begins : (n : NodeName) (j : List (Frame E)) → n ≡ w.base.duty.holder → MayHold w n j → Begins j w.base.booked
+  own_begins n j own may = in_choice (λ z. Begins z w.base.booked) n j may (λ c. subst (λ m. Begins (node_at (unrecovered c w).nodes m).journal w.base.booked) (sym own) (s.unrecovered_parts c).booked.begins)
 
   pub register_started_longer : (b : Bool) → Begins (register_started w b).base.booked w.base.booked
   register_started_longer b = by_duty w.failed_duty refl b

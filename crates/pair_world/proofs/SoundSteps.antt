@@ -11,7 +11,7 @@ use Rattle.pair_world.specs.SoundWorld.{Invariant, IsSound, Booked}
 use Rattle.pair_world.specs.FaultOrigin.{ComesFrom}
 use Rattle.pair_world.proofs.Worlds.{caught_up, formatted_sound, halt_sound}
 use Rattle.pair_world.proofs.Doubts.{same_step}
-use Rattle.pair_world.proofs.Reopening.{without_doubt_kept, reopened_keeps, base_sound, held_begins}
+use Rattle.pair_world.proofs.Reopening.{without_doubt_kept, reopened_keeps, base_sound, held_begins, own_begins}
 use Rattle.pair_world.proofs.Schedules.{fails, step_keeps, runs_keep}
 use Rattle.pair_world.proofs.NineParts.{parts_from, parts_of, kept_from, sound_of}
 use Rattle.pair_world.proofs.Duties.{takeover, pair}
@@ -48,6 +48,10 @@ module _ {E : Type 0} (due : List E → E → Type 0) where
 
   pub history_is_legal : (w : World E) → IsSound due w → Legal due w.base.booked
   history_is_legal w s = ((base_has_parts w s).holds Booked).legal
+
+  -- each journal of the holder's disk begins with the history
+  pub holder_begins : (w : World E) (node : NodeName) (journal : List (Frame E)) → IsSound due w → node ≡ w.base.duty.holder → MayHold w node journal → Begins journal w.base.booked
+  holder_begins w node journal s own may = own_begins due w (kept_from due w s) node journal own may
 
   -- in mode Both each journal that a disk may hold begins with the history
   pub journals_begin : (w : World E) (node : NodeName) (journal : List (Frame E)) → IsSound due w → w.base.duty.mode ≡ Both → MayHold w node journal → Begins journal w.base.booked

@@ -4,6 +4,7 @@ pub mod Deliveries
 pub mod Changes
 pub mod Replies
 pub mod Step
+pub mod Refusals
 pub mod SoundWorld
 pub mod FaultOrigin
 pub mod Limits

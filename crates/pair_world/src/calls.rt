@@ -37,19 +37,19 @@ pub fn deliveries_are_the_receivers<L: Entries>()
     ensures behind { (w : World L.Entry) (i : ℕ) (x : Shipment L.Entry)
         → item_at w.base.messages i ≡ Some (Ships x) → w.register_up ≡ true → IsBehind w.base x
         → (said w.base x
-            ≡ Told_behind (length (receiver w.base x).journal) (suc x.preceding))
+        ≡ Told_behind (length (receiver w.base x).journal) (suc x.preceding))
         × (journal_left (receiver w.base x).known (receiver w.base x).journal (told_by x)
-            ≡ (receiver w.base x).journal)
+        ≡ (receiver w.base x).journal)
         × HearsEpoch {Q = L.Request} w (Deliver i)
-            (record w { base = receiver_changed w.base x }) }
+        (record w { base = receiver_changed w.base x }) }
     // All other answers: the delivery is done.
     ensures done { (bounds : Bounds) (w : World L.Entry) (i : ℕ) (x : Shipment L.Entry)
         → item_at w.base.messages i ≡ Some (Ships x) → w.register_up ≡ true → CanStore w.base x
         → (said w.base x
-            ≡ told_as (receiver w.base x).journal (told_by x)
-                (answer (receiver w.base x).journal (told_by x)))
+        ≡ told_as (receiver w.base x).journal (told_by x)
+        (answer (receiver w.base x).journal (told_by x)))
         × (answer (receiver w.base x).journal (told_by x) ≡ Behind → ⊥)
         × (journal_stored w.base x ≡ (state_left (receiver w.base x) (told_by x)).journal)
         × WorldStep {Q = L.Request} L.due bounds w (Deliver i)
-            (record w { base = receiver_answered w.base x }) }
+        (record w { base = receiver_answered w.base x }) }
 {}

@@ -7,6 +7,7 @@
 mod calls;
 mod laws;
 mod needed;
+mod rows;
 mod worked;
 
 pub use calls::{deliveries_are_the_receivers, duties_are_one_list};
@@ -18,6 +19,7 @@ pub use needed::{
     acknowledged_is_needed, agreement_follows, booked_is_needed, current_is_needed,
     floored_is_needed, following_is_needed, in_time_is_needed, known_is_needed, mirrored_is_needed,
 };
+pub use rows::{refusals_are_one, rows_are_exact};
 pub use worked::{
     bookings_wait_for_both, failed_takeovers_may_last, old_shipments_are_stale,
     takeovers_book_what_is_stored, uncommitted_suffixes_are_cut,
