@@ -27,3 +27,4 @@ pub mod DutyLists
 pub mod Received
 pub mod RowTests
 pub mod ExactRows
+pub mod Moments

@@ -5,6 +5,7 @@ pub mod Changes
 pub mod Replies
 pub mod Step
 pub mod Refusals
+pub mod Moments
 pub mod SoundWorld
 pub mod FaultOrigin
 pub mod Limits

@@ -1,12 +1,14 @@
 //! What a call of a node, or of the pair of two nodes, is in the world.
 ghost use Rattle.std.specs.Prelude.{◌≡◌, ◌<◌, ◌↔◌, ◌∷◌, [], ◌++◌, ℕ, suc, List, length, Some, true};
 ghost use Rattle.ali_base.specs.declared.duty.Duty.{Duty};
-ghost use Rattle.pair_world.specs.Frames.{Frame, item_at};
+ghost use Rattle.pair_world.specs.Frames.{Frame, Begins, item_at};
 ghost use Rattle.pair_world.specs.World.{other, Shipment, Ships, told_by, known, World, MayRead, MayList, duty_list, opened, opened_from};
 ghost use Rattle.pair_world.specs.Deliveries.{Told_stale, Told_behind, told_as, answer, Behind, journal_left};
 ghost use Rattle.pair_world.specs.Changes.{journal_stored};
 ghost use Rattle.pair_world.specs.Replies.{receiver, said, state_left, receiver_changed, receiver_answered};
-ghost use Rattle.pair_world.specs.Step.{Deliver, Bounds, WorldStep, Refuses, HearsEpoch, IsBehind, CanStore};
+ghost use Rattle.pair_world.specs.Step.{Event, Deliver, Halted, Bounds, WorldStep, Refuses, HearsEpoch, IsBehind, CanStore, Halts, Turn, Runs};
+ghost use Rattle.pair_world.specs.SoundWorld.{IsSound};
+ghost use Rattle.pair_world.specs.Moments.{IsMoment, IsMomentIn};
 
 use crate::laws::Entries;
 
@@ -52,4 +54,20 @@ pub fn deliveries_are_the_receivers<L: Entries>()
         × (journal_stored w.base x ≡ (state_left (receiver w.base x) (told_by x)).journal)
         × WorldStep {Q = L.Request} L.due bounds w (Deliver i)
         (record w { base = receiver_answered w.base x }) }
+{}
+
+/// At each moment of an event each disk may represent any list that it has before it, or after a fault of it,
+/// whatever the other disks represent. A run that begins then begins after a halt of the event: so it finds a
+/// sound world, and nothing that was booked is lost.
+pub fn moments_are_halts<L: Entries>()
+    ensures event { (bounds : Bounds) (w v : World L.Entry) (event : Event L.Entry L.Request)
+        → IsSound L.due w → IsMoment L.due bounds w event v → Halts L.due bounds w event v }
+    ensures course { (bounds : Bounds) (w v : World L.Entry)
+        (turns : List (Turn L.Entry L.Request L.Reply)) (event : Event L.Entry L.Request)
+        → IsSound L.due w → IsMomentIn L.due L.form bounds w turns event v
+        → Runs L.due L.form bounds w (turns ++ record { event = event; outcome = Halted } ∷ []) v }
+    ensures sound { (bounds : Bounds) (w v : World L.Entry)
+        (turns : List (Turn L.Entry L.Request L.Reply)) (event : Event L.Entry L.Request)
+        → IsSound L.due w → IsMomentIn L.due L.form bounds w turns event v
+        → IsSound L.due v × Begins v.base.booked w.base.booked }
 {}
