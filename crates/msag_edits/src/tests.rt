@@ -1,4 +1,4 @@
-ghost use Rattle.std.specs.Prelude.{◌+◌, ◌≤◌, length};
+ghost use Rattle.std.specs.Prelude.{◌≤◌, length};
 
 use super::*;
 use ali_base::{Company, Tn};
@@ -7,6 +7,7 @@ use msag_ranges::Guide;
 use number_life::Row;
 use number_table::Rows;
 use office_entry::Edit;
+use office_fixtures::SentRecord;
 use std::test::Fail;
 
 // Applies the edit of a text, and answers its code and detail; None where it is no edit, or memory
@@ -20,41 +21,22 @@ fn apply(guide: &mut Guide, rows: &mut Rows, text: &[u8]) -> Option<(u16, u64)> 
     Some((verdict.code, verdict.detail))
 }
 
-// Writes a text into columns of a record, counted from 1.
-fn put(bytes: &mut [u8; 512], from: usize, text: &[u8])
-    requires first { 1 ≤ from }
-    requires room { from + length text.now ≤ 513 }
-{
-    bytes[from - 1..from - 1 + text.len()].copy_from_slice(text);
-}
-
 // An insert of a number at an address in Denver.
-fn record(tn: &[u8], house: &[u8], name: &[u8], esn: &[u8]) -> Option<Record>
-    requires tn { length tn.now ≤ 10 }
+fn record(tn: &[u8; 10], house: &[u8], street: &[u8], esn: &[u8]) -> Option<Record>
     requires house { length house.now ≤ 10 }
-    requires name { length name.now ≤ 60 }
+    requires street { length street.now ≤ 60 }
     requires esn { length esn.now ≤ 5 }
 {
-    let mut bytes = [b' '; 512];
-    put(&mut bytes, 1, b"I");
-    put(&mut bytes, 2, tn);
-    put(&mut bytes, 12, house);
-    put(&mut bytes, 28, name);
-    put(&mut bytes, 88, b"ST");
-    put(&mut bytes, 94, b"DENVER");
-    put(&mut bytes, 126, b"CO");
-    put(&mut bytes, 188, b"JOHN SMITH");
-    put(&mut bytes, 220, b"10");
-    put(&mut bytes, 226, esn);
-    put(&mut bytes, 251, b"010224ABC01");
-    put(&mut bytes, 261, b"ABC01");
-    put(&mut bytes, 512, b"*");
-    read_record(&bytes, Company::read(b"ABC01")?).ok()
+    let sent = SentRecord {
+        street,
+        esn,
+        ..SentRecord::new(b'I', tn, house)
+    };
+    read_record(&sent.bytes(), Company::read(b"ABC01")?).ok()
 }
 
 // Puts a locked row of a street into the table; None where it is no record, or there is no room.
-fn insert(rows: &mut Rows, tn: &[u8], house: &[u8], name: &[u8], esn: &[u8]) -> Option<()>
-    requires tn { length tn.now ≤ 10 }
+fn insert(rows: &mut Rows, tn: &[u8; 10], house: &[u8], name: &[u8], esn: &[u8]) -> Option<()>
     requires house { length house.now ≤ 10 }
     requires name { length name.now ≤ 60 }
     requires esn { length esn.now ≤ 5 }

@@ -12,3 +12,6 @@ pub use guide_fault::GuideFault;
 pub use held_numbers::{greatest_to, has_parity, has_sound_ends, holds, least_from};
 pub use overlap::overlaps;
 pub use range::Range;
+
+#[cfg(test)]
+mod tests;

@@ -1,27 +1,17 @@
 //! The life table, cell by cell, against answers that were written down apart from it.
-ghost use Rattle.std.specs.Prelude.{◌+◌, ◌≤◌, length};
 
 use crate::{LifeAct, NumberStanding, Row, judge};
 use ali_base::{Company, Day};
 use ali_record::{Record, read_record};
-
-// Writes a text over the columns from `column` on, counted from 1.
-fn put(bytes: &mut [u8; 512], column: usize, text: &[u8])
-    requires { (1 ≤ column) × (column + length text.now ≤ 513) }
-{
-    bytes[column - 1..column - 1 + text.len()].copy_from_slice(text);
-}
+use office_fixtures::SentRecord;
 
 // The record of a company for one number, with this function.
 fn record(function: u8, company: &[u8; 5]) -> Option<Record> {
-    let mut bytes = [b' '; 512];
-    bytes[0] = function;
-    put(&mut bytes, 2, b"3035550100");
-    put(&mut bytes, 220, b"10");
-    put(&mut bytes, 251, b"010224");
-    put(&mut bytes, 261, company);
-    put(&mut bytes, 512, b"*");
-    read_record(&bytes, Company::read(company)?).ok()
+    let sent = SentRecord {
+        company,
+        ..SentRecord::new(function, b"3035550100", b"")
+    };
+    read_record(&sent.bytes(), Company::read(company)?).ok()
 }
 
 // The row of the number where it stands so for ABC01.
