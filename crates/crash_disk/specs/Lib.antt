@@ -3,8 +3,8 @@ pub mod CrashOutcomes
 pub mod Moments
 pub mod CallRecord
 pub mod RecordedSound
-pub mod Recording
 pub mod CrashImages
+pub mod Recording
 pub mod MemoryDisk
 pub mod FusedDisk
 pub mod FileState

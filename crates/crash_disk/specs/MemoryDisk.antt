@@ -5,6 +5,8 @@ use Rattle.ali_base.specs.Faults.{one_more}
 use Rattle.crash_disk.specs.DiskState.{DiskState}
 use Rattle.crash_disk.specs.CallRecord.{DiskCall, Looked, Wrote, Synced, content, recorded_state}
 use Rattle.crash_disk.specs.Recording.{cost}
+use Rattle.crash_disk.specs.CrashImages.{crash_image}
+use Rattle.crash_disk.specs.declared.kept.Kept.{Kept}
 
 -- start: what it held at first, all of it synced. calls: its record, the newest first. capacity: the most bytes that it holds. room: the record's, in bytes, and left: what is left of it. failing: the calls that fail, counted from 1. made: those made. faults: those that failed
 pub record MemoryState : Type 0 where
@@ -63,6 +65,10 @@ after_call s count call failed = record s {
   faults = if failed then one_more s.faults else s.faults;
 }
 
+-- `len` or `read_at`, which changes nothing
+abbrev pub after_look : MemoryState → Bool → MemoryState
+after_look s failed = after_call s 0 Looked failed
+
 -- a write, which was done or failed
 abbrev pub after_write : MemoryState → ℕ → List ℕ → Bool → MemoryState
 after_write s at piece failed = after_call s (length piece) (Wrote at piece (not failed)) failed
@@ -70,3 +76,7 @@ after_write s at piece failed = after_call s (length piece) (Wrote at piece (not
 -- a sync; one that failed changed nothing
 abbrev pub after_sync : MemoryState → Bool → MemoryState
 after_sync s failed = after_call s 0 (if failed then Looked else Synced) failed
+
+-- what a crash leaves of it, with the same room
+abbrev pub crashed_disk : Kept → MemoryState → MemoryState
+crashed_disk kept s = fresh_disk (crash_image kept s.start s.calls) s.capacity s.room []

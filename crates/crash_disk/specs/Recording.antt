@@ -1,7 +1,8 @@
 -- How the record of calls is kept: the pieces that were written stand one after the other.
-use Rattle.std.specs.Prelude.{ℕ, ◌+◌, ◌-◌, ◌≤◌, Bool, true, false, List, ◌∷◌, take, drop, map, reverse}
+use Rattle.std.specs.Prelude.{◌≡◌, ℕ, ◌+◌, ◌-◌, ◌≤◌, Bool, true, false, List, ◌∷◌, length, take, drop, map, reverse}
 use Rattle.std.specs.List.{All}
 use Rattle.crash_disk.specs.CallRecord.{DiskCall, Looked, Wrote, Synced}
+use Rattle.crash_disk.specs.CrashImages.{up_to_sync, since_sync}
 use Rattle.crash_disk.specs.declared.calls.Call.{Call}
 use Rattle.crash_disk.specs.declared.calls.Call.TheVariants as Kept
 
@@ -44,3 +45,9 @@ piece_end Kept.Synced = 0
 -- each piece stands among so many bytes
 abbrev pub AllWithin : ℕ → List Call → Type 0
 AllWithin size calls = All (λ call. piece_end call ≤ size) calls
+
+-- the first n calls are those up to the last sync, and the others those since
+pub record IsSyncPlace (calls : List Call) (n : ℕ) : Type 0 where
+  pub within : n ≤ length calls
+  pub up_to : (pieces : List ℕ) → recorded pieces (take n calls) ≡ up_to_sync (recorded pieces calls)
+  pub since : (pieces : List ℕ) → recorded pieces (drop n calls) ≡ since_sync (recorded pieces calls)

@@ -1,8 +1,8 @@
 //! Calls as they are recorded.
-ghost use Rattle.std.specs.Prelude.{◌≡◌, ℕ, ◌≤◌, List, [], ◌∷◌, length, take, drop, vec_capacity};
+ghost use Rattle.std.specs.Prelude.{◌≡◌, ◌≤◌, [], ◌∷◌, length, vec_capacity};
 ghost use Rattle.crash_disk.specs.CallRecord.{content};
-ghost use Rattle.crash_disk.specs.CrashImages.{up_to_sync, since_sync, filled};
-ghost use Rattle.crash_disk.specs.Recording.{recorded, told, piece_end, is_sync, AllWithin};
+ghost use Rattle.crash_disk.specs.CrashImages.{filled};
+ghost use Rattle.crash_disk.specs.Recording.{recorded, told, piece_end, is_sync, AllWithin, IsSyncPlace};
 
 use crate::image::{fill_over, write_over};
 
@@ -87,9 +87,7 @@ fn fill_call(call: &Call, pieces: &[u8], byte: u8, bytes: &mut Vec<u8>)
 
 /// How many calls there are up to the last sync.
 pub fn synced_count(calls: &[Call]) -> usize
-    ensures within { result ≤ length calls.now }
-    ensures up_to { (pieces : List ℕ) → recorded pieces (take result calls.now) ≡ up_to_sync (recorded pieces calls.now) }
-    ensures since { (pieces : List ℕ) → recorded pieces (drop result calls.now) ≡ since_sync (recorded pieces calls.now) }
+    ensures { IsSyncPlace calls.now result }
 {
     let mut count = calls.len();
     while count > 0 {

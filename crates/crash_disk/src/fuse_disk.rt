@@ -1,9 +1,7 @@
 //! A disk that stops.
-ghost use Rattle.std.specs.Prelude.{◌≡◌, ◌≤◌, ◌||◌, not, false, length, is_err, IfOk, if◌then◌else◌};
-ghost use Rattle.crash_disk.specs.CallRecord.{Looked};
+ghost use Rattle.std.specs.Prelude.{◌≡◌, ◌≤◌, not, false, length, is_err, IfOk};
 ghost use Rattle.crash_disk.specs.CrashOutcomes.{Stays, Writes, TellsLength, Reads, Writing, Syncing, HasCause};
-ghost use Rattle.crash_disk.specs.MemoryDisk.{call_fails, write_fails, after_call, after_write, after_sync};
-ghost use Rattle.crash_disk.specs.FusedDisk.{FuseState, fuse_state, is_blown, after_fused};
+ghost use Rattle.crash_disk.specs.FusedDisk.{fuse_state, is_blown, after_fused, fused_fails, fused_write_fails, fused_look, fused_write, fused_sync};
 
 use crate::disk::{Disk, Failed};
 use crate::faults::count_fault;
@@ -72,8 +70,8 @@ impl Disk for FuseDisk {
         ensures len { TellsLength (fuse_state self.old) result }
         ensures stays { Stays (fuse_state self.old) (fuse_state self.new) }
         ensures cause { HasCause (fuse_state self.old) (fuse_state self.new) result }
-        ensures fails { is_err result ≡ (is_blown self.old || call_fails self.old.disk 0) }
-        ensures after { self.new ≡ after_fused self.old (after_call self.old.disk 0 Looked (is_err result)) (is_err result) }
+        ensures fails { is_err result ≡ fused_fails self.old 0 }
+        ensures after { self.new ≡ fused_look self.old (is_err result) }
     {
         if !self.passes() {
             return Err(Failed);
@@ -88,8 +86,8 @@ impl Disk for FuseDisk {
         ensures bytes { Reads at (fuse_state self.old) buf.new result }
         ensures stays { Stays (fuse_state self.old) (fuse_state self.new) }
         ensures cause { HasCause (fuse_state self.old) (fuse_state self.new) result }
-        ensures fails { is_err result ≡ (is_blown self.old || call_fails self.old.disk 0) }
-        ensures after { self.new ≡ after_fused self.old (after_call self.old.disk 0 Looked (is_err result)) (is_err result) }
+        ensures fails { is_err result ≡ fused_fails self.old 0 }
+        ensures after { self.new ≡ fused_look self.old (is_err result) }
     {
         if !self.passes() {
             return Err(Failed);
@@ -103,8 +101,8 @@ impl Disk for FuseDisk {
         ensures written { Writing at bytes.now (fuse_state self.old) (fuse_state self.new) result }
         ensures writes { Writes at (length bytes.now) (fuse_state self.old) (fuse_state self.new) }
         ensures cause { HasCause (fuse_state self.old) (fuse_state self.new) result }
-        ensures fails { is_err result ≡ (is_blown self.old || write_fails self.old.disk at (length bytes.now)) }
-        ensures after { self.new ≡ after_fused self.old (after_write self.old.disk at bytes.now (is_err result)) (is_err result) }
+        ensures fails { is_err result ≡ fused_write_fails self.old at (length bytes.now) }
+        ensures after { self.new ≡ fused_write self.old at bytes.now (is_err result) }
     {
         if !self.passes() {
             return Err(Failed);
@@ -118,8 +116,8 @@ impl Disk for FuseDisk {
         ensures durable { Syncing (fuse_state self.old) (fuse_state self.new) result }
         ensures stays { Stays (fuse_state self.old) (fuse_state self.new) }
         ensures cause { HasCause (fuse_state self.old) (fuse_state self.new) result }
-        ensures fails { is_err result ≡ (is_blown self.old || call_fails self.old.disk 0) }
-        ensures after { self.new ≡ after_fused self.old (after_sync self.old.disk (is_err result)) (is_err result) }
+        ensures fails { is_err result ≡ fused_fails self.old 0 }
+        ensures after { self.new ≡ fused_sync self.old (is_err result) }
     {
         if !self.passes() {
             return Err(Failed);

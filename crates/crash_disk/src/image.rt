@@ -37,7 +37,8 @@ pub fn append(bytes: &mut Vec<u8>, piece: &[u8])
 // Writes a piece over what is there.
 fn put(bytes: &mut Vec<u8>, at: usize, piece: &[u8])
     requires { at + length piece.now ≤ length bytes.old.items }
-    ensures bytes { bytes.new.items ≡ take at bytes.old.items ++ (piece.now ++ drop (at + length piece.now) bytes.old.items) }
+    ensures bytes { bytes.new.items
+        ≡ take at bytes.old.items ++ (piece.now ++ drop (at + length piece.now) bytes.old.items) }
     ensures room { vec_capacity bytes.old ≤ vec_capacity bytes.new }
 {
     bytes[at..at + piece.len()].copy_from_slice(piece);

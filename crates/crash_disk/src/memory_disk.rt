@@ -1,9 +1,8 @@
 //! A disk in memory, which keeps a record of its calls.
 ghost use Rattle.std.specs.Prelude.{◌≡◌, ◌≤◌, ◌+◌, [], true, false, IsTrue, vec_capacity, length, take, drop, is_err, nat_le, IfOk, if◌then◌else◌};
-ghost use Rattle.crash_disk.specs.CallRecord.{Looked, Wrote, Synced};
 ghost use Rattle.crash_disk.specs.CrashImages.{crash_image};
 ghost use Rattle.crash_disk.specs.declared.kept.Kept.TheVariants.{Old};
-ghost use Rattle.crash_disk.specs.MemoryDisk.{fresh_disk, held, state_of, call_fails, write_fails, has_room, after_call, after_write, after_sync};
+ghost use Rattle.crash_disk.specs.MemoryDisk.{fresh_disk, crashed_disk, held, state_of, call_fails, write_fails, has_room, after_look, after_write, after_sync};
 ghost use Rattle.crash_disk.specs.CrashOutcomes.{Stays, Writes, TellsLength, Reads, Writing, Syncing, HasCause};
 
 use crate::disk::{Disk, Failed};
@@ -36,7 +35,16 @@ impl Model for MemDisk {
 
     ghost Value = { MemoryState };
 
-    ghost view = { λ m. record { start = m.start.items; calls = m.log.calls; capacity = m.capacity; room = m.log.room; left = m.log.left; failing = m.failing.items; made = m.made; faults = m.faults } };
+    ghost view = { λ m. record {
+      start = m.start.items;
+      calls = m.log.calls;
+      capacity = m.capacity;
+      room = m.log.room;
+      left = m.log.left;
+      failing = m.failing.items;
+      made = m.made;
+      faults = m.faults;
+    } };
 
     ghost invariant = { λ m. (m.bytes.items ≡ content m.start.items m.log.calls)
         × (length m.bytes.items ≤ m.capacity) × (m.capacity ≤ vec_capacity m.bytes) };
@@ -91,7 +99,7 @@ impl MemDisk {
     /// What a crash now leaves, as a disk with the same room, all of it synced, with an empty
     /// record and no calls that fail.
     pub fn after_crash(&self, kept: Kept) -> Result<MemDisk, NoMemory>
-        ensures image { IfOk result (λ disk. disk ≡ fresh_disk (crash_image kept self.now.start self.now.calls) self.now.capacity self.now.room []) }
+        ensures image { IfOk result (λ disk. disk ≡ crashed_disk kept self.now) }
         ensures allowed { IfOk result (λ disk. (state_of self.now).may_leave (held disk)) }
     {
         let mut bytes = Vec::with_capacity(self.alloc, self.capacity)?;
@@ -121,7 +129,7 @@ impl MemDisk {
 
     // Counts a call that changed nothing, and records it where there is room.
     fn note_look(&mut self, failed: bool)
-        ensures after { self.new ≡ after_call self.old 0 Looked failed }
+        ensures after { self.new ≡ after_look self.old failed }
         ensures later { self.old.faults ≤ self.new.faults }
     {
         self.made = self.made.saturating_add(1);
@@ -134,7 +142,7 @@ impl MemDisk {
     // Counts and records a sync.
     fn note_sync(&mut self)
         requires { IsTrue (has_room self.old 0) }
-        ensures { self.new ≡ after_call self.old 0 Synced false }
+        ensures { self.new ≡ after_sync self.old false }
     {
         self.made = self.made.saturating_add(1);
         self.log.sync();
@@ -142,7 +150,7 @@ impl MemDisk {
 
     // Counts a write that failed, and records it where there is room.
     fn note_failed_write(&mut self, at: u64, piece: &[u8])
-        ensures after { self.new ≡ after_call self.old (length piece.now) (Wrote at piece.now false) true }
+        ensures after { self.new ≡ after_write self.old at piece.now true }
         ensures later { self.old.faults ≤ self.new.faults }
     {
         self.made = self.made.saturating_add(1);
@@ -156,7 +164,7 @@ impl MemDisk {
     fn note_write(&mut self, at: u64, piece: &[u8])
         requires room { IsTrue (has_room self.old (length piece.now)) }
         requires fits { at + length piece.now ≤ self.old.capacity }
-        ensures { self.new ≡ after_call self.old (length piece.now) (Wrote at piece.now true) false }
+        ensures { self.new ≡ after_write self.old at piece.now false }
     {
         self.made = self.made.saturating_add(1);
         self.log.write(at, piece, true);
@@ -207,7 +215,7 @@ impl Disk for MemDisk {
         ensures stays { Stays (state_of self.old) (state_of self.new) }
         ensures cause { HasCause (state_of self.old) (state_of self.new) result }
         ensures fails { is_err result ≡ call_fails self.old 0 }
-        ensures after { self.new ≡ after_call self.old 0 Looked (is_err result) }
+        ensures after { self.new ≡ after_look self.old (is_err result) }
     {
         let failed = self.fails(0);
         self.note_look(failed);
@@ -223,7 +231,7 @@ impl Disk for MemDisk {
         ensures stays { Stays (state_of self.old) (state_of self.new) }
         ensures cause { HasCause (state_of self.old) (state_of self.new) result }
         ensures fails { is_err result ≡ call_fails self.old 0 }
-        ensures after { self.new ≡ after_call self.old 0 Looked (is_err result) }
+        ensures after { self.new ≡ after_look self.old (is_err result) }
     {
         let failed = self.fails(0);
         self.note_look(failed);

@@ -24,7 +24,11 @@ impl Model for Record {
 
     ghost Value = { RecordState };
 
-    ghost view = { λ r. record { calls = recorded r.pieces.items r.calls.items; room = r.room; left = r.left } };
+    ghost view = { λ r. record {
+      calls = recorded r.pieces.items r.calls.items;
+      room = r.room;
+      left = r.left;
+    } };
 
     ghost invariant = { λ r. (32 * length r.calls.items + length r.pieces.items + r.left ≤ r.room)
         × (r.room < 32 * (vec_capacity r.calls + 1)) × (r.room ≤ vec_capacity r.pieces)

@@ -36,30 +36,40 @@ module _ (pieces : List ℕ) (calls : List Call) (n : ℕ) (d : Call) (some : 0 
       ∙ ap (λ l. l ++ earlier) (sym (recorded_parts pieces (last ∷ []) (drop n calls)))
       ∙ ap (λ l. recorded pieces l ++ earlier) (sym more)
 
-pub returns-then-is_sync-clause-up_to : goal.returns-then-is_sync-clause-up_to
-returns-then-is_sync-clause-up_to c pieces =
-    sym (c.loop-count.invariant.up_to pieces ∙ up_to_last pieces c.args.calls.now c.loop-count.count _ c.loop-count-test.true c.loop-count.invariant.within (sym c.is_sync.ensures ∙ c.if-is_sync.true))
-
-pub returns-then-is_sync-clause-since : goal.returns-then-is_sync-clause-since
-returns-then-is_sync-clause-since c pieces =
-    let none = since_last pieces c.args.calls.now c.loop-count.count _ c.loop-count-test.true c.loop-count.invariant.within (sym c.is_sync.ensures ∙ c.if-is_sync.true) in
-    sym (c.loop-count.invariant.since pieces ∙ ap (λ l. recorded pieces (drop c.loop-count.count c.args.calls.now) ++ l) none ∙ append-nil _)
+pub returns-then-is_sync : goal.returns-then-is_sync
+returns-then-is_sync c =
+    let calls = c.args.calls.now in
+    let n = c.loop-count.count in
+    let held = c.loop-count.invariant in
+    let is = sym c.is_sync.ensures ∙ c.if-is_sync.true in
+    record {
+      within = held.within;
+      up_to = λ pieces. sym (held.up_to pieces ∙ up_to_last pieces calls n _ c.loop-count-test.true held.within is);
+      since = λ pieces.
+          let none = since_last pieces calls n _ c.loop-count-test.true held.within is in
+          sym (held.since pieces ∙ ap (λ l. recorded pieces (drop n calls) ++ l) none ∙ append-nil _);
+    }
 
 pub loop-count-preserved : goal.loop-count-preserved
 loop-count-preserved c =
-    let is : is_sync (get_or c.args.calls.now (c.loop-count.count - 1) _) ≡ false = sym c.is_sync.ensures ∙ c.if-is_sync.false in
+    let calls = c.args.calls.now in
+    let n = c.loop-count.count in
+    let held = c.loop-count.invariant in
+    let is : is_sync (get_or calls (n - 1) _) ≡ false = sym c.is_sync.ensures ∙ c.if-is_sync.false in
     record {
-      within = omega (arith, c.loop-count.invariant.within);
-      up_to = λ pieces. c.loop-count.invariant.up_to pieces ∙ up_to_other pieces c.args.calls.now c.loop-count.count _ c.loop-count-test.true c.loop-count.invariant.within is;
-      since = λ pieces. c.loop-count.invariant.since pieces ∙ since_other pieces c.args.calls.now c.loop-count.count _ c.loop-count-test.true c.loop-count.invariant.within is;
+      within = omega (arith, held.within);
+      up_to = λ pieces. held.up_to pieces ∙ up_to_other pieces calls n _ c.loop-count-test.true held.within is;
+      since = λ pieces. held.since pieces ∙ since_other pieces calls n _ c.loop-count-test.true held.within is;
     }
 
-pub returns-clause-up_to : goal.returns-clause-up_to
-returns-clause-up_to c pieces =
-    let none : c.loop-count.count ≡ 0 = omega (arith, c.loop-count-test.false) in
-    ap (λ k. recorded pieces (take k c.args.calls.now)) none ∙ sym (c.loop-count.invariant.up_to pieces ∙ ap (λ k. up_to_sync (recorded pieces (take k c.args.calls.now))) none)
-
-pub returns-clause-since : goal.returns-clause-since
-returns-clause-since c pieces =
-    let none : c.loop-count.count ≡ 0 = omega (arith, c.loop-count-test.false) in
-    sym (c.loop-count.invariant.since pieces ∙ ap (λ k. recorded pieces (drop c.loop-count.count c.args.calls.now) ++ since_sync (recorded pieces (take k c.args.calls.now))) none ∙ append-nil _)
+pub returns : goal.returns
+returns c =
+    let calls = c.args.calls.now in
+    let n = c.loop-count.count in
+    let held = c.loop-count.invariant in
+    let none : n ≡ 0 = omega (arith, c.loop-count-test.false) in
+    record {
+      within = held.within;
+      up_to = λ pieces. ap (λ k. recorded pieces (take k calls)) none ∙ sym (held.up_to pieces ∙ ap (λ k. up_to_sync (recorded pieces (take k calls))) none);
+      since = λ pieces. sym (held.since pieces ∙ ap (λ k. recorded pieces (drop n calls) ++ since_sync (recorded pieces (take k calls))) none ∙ append-nil _);
+    }
