@@ -116,6 +116,20 @@ impl<D: Disk + Drop, R: BodyReader> Log<D, R> {
         self.count
     }
 
+    /// How many bytes a body has.
+    pub fn body_len(&self) -> u32
+        ensures { result ≡ body_len_of self.now }
+    {
+        self.body_len
+    }
+
+    /// How many frames it may have.
+    pub fn limit(&self) -> u32
+        ensures { result ≡ limit_of self.now }
+    {
+        self.limit
+    }
+
     /// False once an append, a cut or an opening was refused by the disk, until the log is opened again.
     pub fn usable(&self) -> bool
         ensures { result ≡ is_usable self.now }
