@@ -59,7 +59,8 @@ impl<D: Disk + Drop, R: BodyReader> Log<D, R> {
         requires limit { limit + 1 < 2 ^ 32 }
         requires buffer { length head.now < length buffer.old }
         requires reader { (limit ≤ R.room reader.old) × R.holds reader.old [] }
-        ensures { MatchResult result (IsOpened R.is_body D.state (R.holds reader.new) head.now limit disk) (λ e. IsRefused R.is_body D.state head.now limit disk e.0 e.1) }
+        ensures answer { MatchResult result (IsOpened R.is_body D.state (R.holds reader.new) head.now limit disk) (λ e. IsRefused R.is_body D.state head.now limit disk e.0 e.1) }
+        ensures capacity { R.capacity reader.new ≡ R.capacity reader.old }
     {
         let mut disk = disk;
         match read_log(&mut disk, head, limit, buffer, reader) {
@@ -86,6 +87,7 @@ impl<D: Disk + Drop, R: BodyReader> Log<D, R> {
         requires buffer { length head.now < length buffer.old }
         requires reader { (limit_of self.old ≤ R.room reader.old) × R.holds reader.old [] }
         ensures answer { MatchResult result (λ _. IsOpened R.is_body D.state (R.holds reader.new) head.now (limit_of self.old) (disk_of self.old) self.new) (IsRefused R.is_body D.state head.now (limit_of self.old) (disk_of self.old) (disk_of self.new)) }
+        ensures capacity { R.capacity reader.new ≡ R.capacity reader.old }
         ensures usable { is_usable self.new ≡ is_ok result }
         ensures fixed { IsFixed D.state self.old self.new }
     {

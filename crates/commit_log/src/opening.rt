@@ -36,6 +36,7 @@ pub fn read_log<D: Disk, R: BodyReader>(
     requires reader { (limit ≤ R.room reader.old) × R.holds reader.old [] }
     ensures read { MatchResult result (λ count. Found R.is_body (R.holds reader.new) head.now count (D.state disk.old) (D.state disk.new)) (Refused R.is_body head.now limit (D.state disk.old) (D.state disk.new)) }
     ensures within { IfOk result (λ count. count ≤ limit) }
+    ensures capacity { R.capacity reader.new ≡ R.capacity reader.old }
     ensures stays { Stays (D.state disk.old) (D.state disk.new) }
     ensures faults { (D.state disk.old).faults ≤ (D.state disk.new).faults }
 {
@@ -100,6 +101,7 @@ fn read_frames<D: Disk, R: BodyReader>(
     requires reader { (limit ≤ R.room reader.old) × R.holds reader.old [] }
     ensures read { MatchResult result (λ count. AllRead R.is_body (R.holds reader.new) body_len first.next count (D.state disk.old)) (Stopped R.is_body body_len limit first.next (D.state disk.old) (D.state disk.new)) }
     ensures within { IfOk result (λ count. count ≤ limit) }
+    ensures capacity { R.capacity reader.new ≡ R.capacity reader.old }
     ensures stays { Stays (D.state disk.old) (D.state disk.new) }
     ensures faults { (D.state disk.old).faults ≤ (D.state disk.new).faults }
 {

@@ -69,6 +69,7 @@ pub fn read_frame<D: Disk, R: BodyReader>(
     ensures buffers { IfOk result (λ found. MatchOption found (Unit {0}) (λ b. Buffers (D.state disk.new) (frame_place body_len number + (body_len + 1)) b.piece buffer.new)) }
     ensures frame { IfOk result (λ found. MatchOption found (ReadsNone R.is_body (D.state disk.new) body_len number) (λ b. ReadsFrame R.is_body (R.holds reader.old) (R.holds reader.new) (D.state disk.new) body_len number b.next)) }
     ensures room { R.room reader.old ≤ R.room reader.new + 1 }
+    ensures capacity { R.capacity reader.new ≡ R.capacity reader.old }
     ensures stays { Stays (D.state disk.old) (D.state disk.new) }
     ensures cause { HasCause (D.state disk.old) (D.state disk.new) result }
 {

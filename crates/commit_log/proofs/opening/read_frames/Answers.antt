@@ -1,4 +1,4 @@
-use Rattle.std.proofs.Common.{◌+◌, ℕ, ◌∙◌, subst, arith}
+use Rattle.std.proofs.Common.{◌+◌, ℕ, ◌∙◌, refl, subst, arith}
 use Rattle.std.proofs.lemmas.Option.{MatchOption-at_some, MatchOption-at_none}
 use Rattle.crash_disk.proofs.Runs.{stays_here, stays_on}
 use Rattle.commit_log.specs.Pieces.{Buffers}
@@ -12,6 +12,7 @@ loop-next-init g c = record {
   faults = omega arith;
   within = omega arith;
   room = omega (arith, c.requires.reader.0);
+  capacity = refl;
   buffer = omega arith;
   buffers = c.requires.buffers;
   so_far = started g.R.BodyReader.is_body (g.R.BodyReader.holds c.args.reader.now) c.args.body_len c.args.first.next (g.D.Disk.state c.args.disk.now) c.requires.reader.1;
@@ -27,6 +28,7 @@ loop-next-preserved g c =
       faults = omega (arith, i.faults, c.in-Ok-Some.ensures.cause.later);
       within = omega (arith, c.if-number-limit.false);
       room = omega (arith, i.room, c.in-Ok-Some.ensures.room);
+      capacity = c.in-Ok-Some.ensures.capacity ∙ i.capacity;
       buffer = omega (arith, i.buffer, c.read_frame.auto.buffer);
       buffers = subst (λ (p : ℕ). Buffers (g.D.Disk.state c.read_frame.new.disk) p c.in-Ok-Some.behind.piece c.read_frame.new.buffer) (next_place c.args.body_len (c.loop-next.count + 1)) buffers;
       so_far = one_more g.R.BodyReader.is_body (g.R.BodyReader.holds c.loop-next.reader) (g.R.BodyReader.holds c.read_frame.new.reader) c.args.body_len c.args.first.next c.loop-next.count c.loop-next.next (g.D.Disk.state c.args.disk.now) (g.D.Disk.state c.read_frame.new.disk)

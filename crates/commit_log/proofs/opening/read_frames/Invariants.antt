@@ -11,6 +11,7 @@ invariant-loop-next g l = record {
   faults : (g.D.Disk.state l.fn.disk).faults ≤ (g.D.Disk.state l.disk).faults;
   within : l.count ≤ l.fn.limit;
   room : l.fn.limit ≤ g.R.BodyReader.room l.reader + l.count;
+  capacity : g.R.BodyReader.capacity l.reader ≡ g.R.BodyReader.capacity l.fn.reader;
   buffer : length l.buffer ≡ length l.fn.buffer;
   buffers : Buffers (g.D.Disk.state l.disk) (frame_place l.fn.body_len (l.count + 1)) l.piece l.buffer;
   so_far : SoFar g.R.BodyReader.is_body (g.R.BodyReader.holds l.reader) l.fn.body_len l.fn.first.next l.count l.next (g.D.Disk.state l.fn.disk);
