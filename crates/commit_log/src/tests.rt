@@ -29,6 +29,8 @@ impl BodyReader for Counter {
 
     ghost room = { λ counter. 2 ^ 32 - 1 - counter.count };
 
+    ghost capacity = { λ counter. 2 ^ 32 - 1 };
+
     fn read(&mut self, number: u32, bytes: &[u8]) -> bool {
         self.count += 1;
         first_of(bytes) as u32 == number
