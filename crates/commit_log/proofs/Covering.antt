@@ -3,7 +3,7 @@ use Rattle.std.proofs.Common.{◌≡◌, ◌≢◌, ◌⊎◌, inl, inr, ℕ, ze
 use Rattle.std.proofs.lemmas.Bool.{cases_eq, cases_lt}
 use Rattle.std.proofs.lemmas.List.{append-nil, drop_more, take_at}
 use Rattle.commit_log.specs.declared.blocks.TheConstants.{COMMITTED}
-use Rattle.commit_log.specs.LogImage.{AreBodies, StandsFor, IsForeign, IsDamaged, NoFrame, log_front}
+use Rattle.commit_log.specs.LogImage.{AreBodies, StandsForSome, IsForeign, IsDamagedSomewhere, NoFrame, log_front}
 use Rattle.commit_log.proofs.Bodies.{bodies_push, log_front_push}
 
 -- two lists of bytes are one or not
@@ -29,7 +29,7 @@ at_byte n bytes long = sym (take-append-drop n bytes) ∙ ap (λ (l : List ℕ).
 
 -- one of the three, of which the last two are left behind the first block
 abbrev pub Read : (ℕ → List ℕ → Bool) → List ℕ → ℕ → List ℕ → Type 0
-Read is_body head limit image = ((k : ℕ) × IsDamaged is_body head limit k image) ⊎ ((bodies : List (List ℕ)) × (length bodies ≤ limit) × StandsFor is_body head bodies image)
+Read is_body head limit image = IsDamagedSomewhere is_body head limit image ⊎ StandsForSome is_body head limit image
 
 -- a frame stands at the front of these bytes, or not
 frame_or_none : (is_body : ℕ → List ℕ → Bool) (n k : ℕ) (bytes : List ℕ) → ((n < length bytes) × (is_body k (take n bytes) ≡ true)) ⊎ NoFrame is_body n k bytes

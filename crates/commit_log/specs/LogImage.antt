@@ -45,3 +45,11 @@ pub record IsDamaged (is_body : ℕ → List ℕ → Bool) (head : List ℕ) (li
   pub number : k ≡ length bodies + 1
   pub within : length bodies ≤ limit
   pub broken : (length bodies ≡ limit) ⊎ NoFrame is_body (length head) k rest
+
+-- it stands for some bodies, at most so many
+abbrev pub StandsForSome : (ℕ → List ℕ → Bool) → List ℕ → ℕ → List ℕ → Type 0
+StandsForSome is_body head limit image = (bodies : List (List ℕ)) × (length bodies ≤ limit) × StandsFor is_body head bodies image
+
+-- it is damaged at some frame
+abbrev pub IsDamagedSomewhere : (ℕ → List ℕ → Bool) → List ℕ → ℕ → List ℕ → Type 0
+IsDamagedSomewhere is_body head limit image = (k : ℕ) × IsDamaged is_body head limit k image

@@ -1,11 +1,12 @@
 -- What an open log stands for, and what its calls answer.
-use Rattle.std.specs.Prelude.{◌≡◌, ℕ, ◌+◌, ◌-◌, ◌<◌, ◌≤◌, Bool, true, false, List, length, take, drop, Some, Result, Ok, Err, slice_get}
+use Rattle.std.specs.Prelude.{◌≡◌, ℕ, ◌+◌, ◌-◌, ◌<◌, ◌≤◌, Bool, true, false, List, length, take, drop, Some, Result, Ok, Err, OnOk, slice_get}
 use Rattle.ali_base.specs.Faults.{Rose}
 use Rattle.crash_disk.specs.DiskState.{DiskState}
 use Rattle.crash_disk.specs.CrashOutcomes.{Stays}
+use Rattle.crash_disk.specs.Moments.{EachMoment}
 use Rattle.crash_disk.specs.declared.disk.Failed.{Failed}
 use Rattle.commit_log.specs.LogImage.{frame_place}
-use Rattle.commit_log.specs.LogState.{Keeps}
+use Rattle.commit_log.specs.LogState.{Keeps, StandsForEither}
 use Rattle.commit_log.specs.Opening.{Found, Refused}
 use Rattle.commit_log.specs.declared.log.Log.{Log}
 use Rattle.commit_log.specs.declared.log.AppendFault.{AppendFault}
@@ -34,7 +35,7 @@ count_of log = log.count
 abbrev pub is_usable : {D R : Type 0} → Log D R → Bool
 is_usable log = log.usable
 
--- Its disk stands for these bodies, all of them synced.
+-- Its disk stands for these bodies, all of them synced, and it has their count and their length.
 pub record Represents {D R : Type 0} (is_body : ℕ → List ℕ → Bool) (state : D → DiskState) (head : List ℕ) (bodies : List (List ℕ)) (log : Log D R) : Type 0 where
   pub kept : Keeps is_body head bodies (state log.disk)
   pub counts : log.count ≡ length bodies
@@ -45,6 +46,16 @@ pub record IsFixed {D R : Type 0} (state : D → DiskState) (old new : Log D R) 
   pub body_len : new.body_len ≡ old.body_len
   pub limit : new.limit ≡ old.limit
   pub faults : (state old.disk).faults ≤ (state new.disk).faults
+
+-- On success the log represents its bodies as changed.
+abbrev pub Becomes : {D R T E : Type 0} → (ℕ → List ℕ → Bool) → (D → DiskState) → (List (List ℕ) → List (List ℕ)) → Log D R → Log D R → Result T E → Type 0
+Becomes is_body state change old new result =
+    (head : List ℕ) (bodies : List (List ℕ)) → Represents is_body state head bodies old → OnOk result (Represents is_body state head (change bodies) new)
+
+-- A crash at each moment of the call leaves an image that stands for the bodies from before or for the changed ones.
+abbrev pub CrashesBetween : {D R : Type 0} → (ℕ → List ℕ → Bool) → (D → DiskState) → (List (List ℕ) → List (List ℕ)) → Log D R → Log D R → Type 0
+CrashesBetween is_body state change old new =
+    (head : List ℕ) (bodies : List (List ℕ)) → Represents is_body state head bodies old → EachMoment (state old.disk) (state new.disk) (StandsForEither is_body head bodies (change bodies))
 
 -- When each answer of an append comes: the number of the new frame, a full log exactly at its limit, or a failure only where the disk's faults rose.
 abbrev pub AppendAnswers : {D R : Type 0} → (D → DiskState) → Log D R → Log D R → Result ℕ AppendFault → Type 0
@@ -90,3 +101,13 @@ pub record IsRefused {D : Type 0} (is_body : ℕ → List ℕ → Bool) (state :
   pub stays : Stays (state disk) (state after)
   pub faults : (state disk).faults ≤ (state after).faults
   pub cause : Refused is_body head limit (state disk) (state after) fault
+
+-- when each answer of an opening comes
+abbrev pub OpenAnswers : {D R : Type 0} → (ℕ → List ℕ → Bool) → (D → DiskState) → (List (List ℕ) → Type 0) → List ℕ → ℕ → D → Result (Log D R) (D × OpenFault) → Type 0
+OpenAnswers is_body state holds head limit disk (Ok log) = IsOpened is_body state holds head limit disk log
+OpenAnswers is_body state holds head limit disk (Err e) = IsRefused is_body state head limit disk e.0 e.1
+
+-- the same of a log that is opened again
+abbrev pub ReopenAnswers : {D R : Type 0} → (ℕ → List ℕ → Bool) → (D → DiskState) → (List (List ℕ) → Type 0) → List ℕ → Log D R → Log D R → Result (Unit {0}) OpenFault → Type 0
+ReopenAnswers is_body state holds head old new (Ok x) = IsOpened is_body state holds head old.limit old.disk new
+ReopenAnswers is_body state holds head old new (Err fault) = IsRefused is_body state head old.limit old.disk new.disk fault

@@ -1,10 +1,11 @@
 -- What the opening of a log finds.
-use Rattle.std.specs.Prelude.{◌≡◌, ◌≢◌, ℕ, Bool, List, ◌++◌, ◌∷◌, length, Some}
+use Rattle.std.specs.Prelude.{◌≡◌, ◌≢◌, ℕ, Bool, List, ◌++◌, ◌∷◌, length, Option, Some, None, Result, Ok, Err}
 use Rattle.ali_base.specs.Faults.{Rose}
 use Rattle.crash_disk.specs.DiskState.{DiskState}
 use Rattle.commit_log.specs.declared.blocks.TheConstants.{COMMITTED}
 use Rattle.commit_log.specs.LogImage.{AreBodies, IsForeign, IsDamaged, log_front}
 use Rattle.commit_log.specs.LogState.{Keeps}
+use Rattle.commit_log.specs.declared.pieces.Behind.{Behind}
 use Rattle.commit_log.specs.declared.opening.OpenFault.{OpenFault}
 use Rattle.commit_log.specs.declared.opening.OpenFault.TheVariants.{DiskFault, Foreign, Damaged}
 
@@ -21,6 +22,11 @@ abbrev pub Refused : (ℕ → List ℕ → Bool) → List ℕ → ℕ → DiskSt
 Refused is_body head limit old new DiskFault = Rose old.faults new.faults
 Refused is_body head limit old new Foreign = (image : List ℕ) → old.content ≡ Some image → IsForeign head image
 Refused is_body head limit old new (Damaged k) = (image : List ℕ) → old.content ≡ Some image → IsDamaged is_body head limit k image
+
+-- when each answer of an opening comes: so many bodies were read, or it was refused
+abbrev pub ReadsLog : (ℕ → List ℕ → Bool) → (List (List ℕ) → Type 0) → List ℕ → ℕ → DiskState → DiskState → Result ℕ OpenFault → Type 0
+ReadsLog is_body holds head limit old new (Ok count) = Found is_body holds head count old new
+ReadsLog is_body holds head limit old new (Err fault) = Refused is_body head limit old new fault
 
 -- Bodies of n bytes were read, so many, up to this commit byte. The first stands behind the byte `first`.
 pub record SoFar (is_body : ℕ → List ℕ → Bool) (holds : List (List ℕ) → Type 0) (n first count next : ℕ) (s : DiskState) : Type 0 where
@@ -49,3 +55,13 @@ BeginsOtherwise head s = (image : List ℕ) → s.content ≡ Some image → IsF
 -- The disk begins with the head and this commit byte.
 abbrev pub BeginsWith : List ℕ → ℕ → DiskState → Type 0
 BeginsWith head first s = (image : List ℕ) → s.content ≡ Some image → (rest : List ℕ) × (image ≡ head ++ first ∷ rest)
+
+-- what was read of the first block: another one, or its commit byte
+abbrev pub ReadsFirst : List ℕ → DiskState → Option Behind → Type 0
+ReadsFirst head s None = BeginsOtherwise head s
+ReadsFirst head s (Some behind) = BeginsWith head behind.next s
+
+-- what was read behind the first block: all frames, so many, or what stopped it
+abbrev pub ReadsFrames : (ℕ → List ℕ → Bool) → (List (List ℕ) → Type 0) → ℕ → ℕ → ℕ → DiskState → DiskState → Result ℕ OpenFault → Type 0
+ReadsFrames is_body holds n limit first old new (Ok count) = AllRead is_body holds n first count old
+ReadsFrames is_body holds n limit first old new (Err fault) = Stopped is_body n limit first old new fault

@@ -1,9 +1,10 @@
 -- What is read of a disk, a piece at a time.
-use Rattle.std.specs.Prelude.{◌≡◌, ℕ, ◌+◌, ◌-◌, ◌<◌, ◌≤◌, ◌++◌, ◌∷◌, Bool, true, List, length, take, drop, Some}
+use Rattle.std.specs.Prelude.{◌≡◌, ℕ, ◌+◌, ◌-◌, ◌<◌, ◌≤◌, ◌++◌, ◌∷◌, Bool, true, List, length, take, drop, Option, Some, None}
 use Rattle.crash_disk.specs.DiskState.{DiskState}
 use Rattle.commit_log.specs.LogState.{with_body}
 use Rattle.commit_log.specs.LogImage.{NoFrame, frame_place}
 use Rattle.commit_log.specs.declared.pieces.Piece.{Piece}
+use Rattle.commit_log.specs.declared.pieces.Behind.{Behind}
 
 -- what the piece has in the buffer stands on the disk from this place on
 pub record Buffers (s : DiskState) (place : ℕ) (piece : Piece) (buffer : List ℕ) : Type 0 where
@@ -30,3 +31,13 @@ pub record ReadsFrame (is_body : ℕ → List ℕ → Bool) (holds_before holds_
 -- no frame k stands on the disk in its place
 abbrev pub ReadsNone : (ℕ → List ℕ → Bool) → DiskState → ℕ → ℕ → Type 0
 ReadsNone is_body s n k = (front rest : List ℕ) → length front ≡ frame_place n k → s.content ≡ Some (front ++ rest) → NoFrame is_body n k rest
+
+-- what was read as frame k: none, or its body and the commit byte behind it
+abbrev pub ReadsNext : (ℕ → List ℕ → Bool) → (List (List ℕ) → Type 0) → (List (List ℕ) → Type 0) → DiskState → ℕ → ℕ → Option Behind → Type 0
+ReadsNext is_body holds_before holds_after s n k None = ReadsNone is_body s n k
+ReadsNext is_body holds_before holds_after s n k (Some behind) = ReadsFrame is_body holds_before holds_after s n k behind.next
+
+-- what is behind a frame stands on the disk from this place on
+abbrev pub BuffersBehind : DiskState → ℕ → List ℕ → Option Behind → Type 0
+BuffersBehind s place buffer None = Unit {0}
+BuffersBehind s place buffer (Some behind) = Buffers s place behind.piece buffer

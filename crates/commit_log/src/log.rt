@@ -1,7 +1,6 @@
 //! The log.
-ghost use Rattle.std.specs.Prelude.{◌≡◌, ◌≤◌, ◌<◌, ◌+◌, ◌-◌, ◌^◌, [], List, ℕ, length, take, true, is_ok, OnOk, MatchResult};
-ghost use Rattle.crash_disk.specs.Moments.{EachMoment};
-ghost use Rattle.commit_log.specs.LogState.{StandsForEither, with_body, body_of};
+ghost use Rattle.std.specs.Prelude.{◌≡◌, ◌≤◌, ◌<◌, ◌+◌, ◌-◌, ◌^◌, [], length, take, true, is_ok};
+ghost use Rattle.commit_log.specs.LogState.{with_body, body_of};
 
 use crate::blocks::{UNCOMMITTED, place_of_commit, place_of_frame};
 use crate::body_reader::BodyReader;
@@ -44,7 +43,9 @@ pub struct Log<D, R> {
 }
 
 impl<D: Disk + Drop, R: BodyReader> Log<D, R> {
-    ghost use Rattle.commit_log.specs.OpenLog.{Represents, IsOpened, IsRefused, IsUntouched, IsFixed, AppendAnswers, CutAnswers, ReadAnswers, count_of, body_len_of, limit_of, disk_of, is_usable};
+    ghost use Rattle.commit_log.specs.OpenLog.{OpenAnswers, ReopenAnswers, AppendAnswers, CutAnswers, ReadAnswers};
+    ghost use Rattle.commit_log.specs.OpenLog.{Becomes, CrashesBetween, IsUntouched, IsFixed};
+    ghost use Rattle.commit_log.specs.OpenLog.{disk_of, body_len_of, limit_of, count_of, is_usable};
 
     /// Opens the log on a disk that begins with the head and a commit byte, of at most `limit`
     /// frames. It reads through the buffer, and the reader reads each body. It changes no byte.
@@ -59,7 +60,7 @@ impl<D: Disk + Drop, R: BodyReader> Log<D, R> {
         requires limit { limit + 1 < 2 ^ 32 }
         requires buffer { length head.now < length buffer.old }
         requires reader { (limit ≤ R.room reader.old) × R.holds reader.old [] }
-        ensures answer { MatchResult result (IsOpened R.is_body D.state (R.holds reader.new) head.now limit disk) (λ e. IsRefused R.is_body D.state head.now limit disk e.0 e.1) }
+        ensures answer { OpenAnswers R.is_body D.state (R.holds reader.new) head.now limit disk result }
         ensures capacity { R.capacity reader.new ≡ R.capacity reader.old }
     {
         let mut disk = disk;
@@ -86,9 +87,9 @@ impl<D: Disk + Drop, R: BodyReader> Log<D, R> {
         requires head { length head.now ≡ body_len_of self.old }
         requires buffer { length head.now < length buffer.old }
         requires reader { (limit_of self.old ≤ R.room reader.old) × R.holds reader.old [] }
-        ensures answer { MatchResult result (λ _. IsOpened R.is_body D.state (R.holds reader.new) head.now (limit_of self.old) (disk_of self.old) self.new) (IsRefused R.is_body D.state head.now (limit_of self.old) (disk_of self.old) (disk_of self.new)) }
-        ensures capacity { R.capacity reader.new ≡ R.capacity reader.old }
+        ensures answer { ReopenAnswers R.is_body D.state (R.holds reader.new) head.now self.old self.new result }
         ensures usable { is_usable self.new ≡ is_ok result }
+        ensures capacity { R.capacity reader.new ≡ R.capacity reader.old }
         ensures fixed { IsFixed D.state self.old self.new }
     {
         match read_log(&mut self.disk, head, self.limit, buffer, reader) {
@@ -132,7 +133,8 @@ impl<D: Disk + Drop, R: BodyReader> Log<D, R> {
         self.limit
     }
 
-    /// False once an append, a cut or an opening was refused by the disk, until the log is opened again.
+    /// False once an append, a cut or an opening was refused by the disk, until the log is opened
+    /// again.
     pub fn usable(&self) -> bool
         ensures { result ≡ is_usable self.now }
     {
@@ -165,11 +167,9 @@ impl<D: Disk + Drop, R: BodyReader> Log<D, R> {
         requires usable { is_usable self.old ≡ true }
         requires length { length block.old ≡ body_len_of self.old + 1 }
         requires lawful { R.is_body (count_of self.old + 1) (body_of block.old) ≡ true }
-        ensures stored { (head : List ℕ) (bodies : List (List ℕ)) → Represents R.is_body D.state head bodies self.old
-            → OnOk result (Represents R.is_body D.state head (with_body bodies (body_of block.old)) self.new) }
+        ensures stored { Becomes R.is_body D.state (λ bodies. with_body bodies (body_of block.old)) self.old self.new result }
         // A crash at any moment leaves the bodies from before, with the new one or without.
-        ensures moments { (head : List ℕ) (bodies : List (List ℕ)) → Represents R.is_body D.state head bodies self.old
-            → EachMoment (D.state (disk_of self.old)) (D.state (disk_of self.new)) (StandsForEither R.is_body head bodies (with_body bodies (body_of block.old))) }
+        ensures moments { CrashesBetween R.is_body D.state (λ bodies. with_body bodies (body_of block.old)) self.old self.new }
         ensures answer { AppendAnswers D.state self.old self.new result }
         ensures fixed { IsFixed D.state self.old self.new }
     {
@@ -193,11 +193,9 @@ impl<D: Disk + Drop, R: BodyReader> Log<D, R> {
     pub fn cut_from(&mut self, k: u32) -> Result<(), Failed>
         requires usable { is_usable self.old ≡ true }
         requires number { (1 ≤ k) × (k ≤ count_of self.old) }
-        ensures cut { (head : List ℕ) (bodies : List (List ℕ)) → Represents R.is_body D.state head bodies self.old
-            → OnOk result (Represents R.is_body D.state head (take (k - 1) bodies) self.new) }
+        ensures cut { Becomes R.is_body D.state (take (k - 1)) self.old self.new result }
         // A crash at any moment leaves the bodies from before, with those from k on or without.
-        ensures moments { (head : List ℕ) (bodies : List (List ℕ)) → Represents R.is_body D.state head bodies self.old
-            → EachMoment (D.state (disk_of self.old)) (D.state (disk_of self.new)) (StandsForEither R.is_body head bodies (take (k - 1) bodies)) }
+        ensures moments { CrashesBetween R.is_body D.state (take (k - 1)) self.old self.new }
         ensures answer { CutAnswers D.state self.old self.new k result }
         ensures fixed { IsFixed D.state self.old self.new }
     {

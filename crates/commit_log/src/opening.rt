@@ -1,9 +1,9 @@
 //! Opening: the bodies are read, up to the first frame that is not committed.
-ghost use Rattle.std.specs.Prelude.{◌≡◌, ◌≤◌, ◌<◌, ◌^◌, ◌+◌, ◌-◌, [], ℕ, length, MatchResult, MatchOption, IfOk, IsTrue, ◌↔◌};
+ghost use Rattle.std.specs.Prelude.{◌≡◌, ◌≤◌, ◌<◌, ◌^◌, ◌+◌, ◌-◌, [], ℕ, length, IfOk, IsTrue, ◌↔◌};
 ghost use Rattle.crash_disk.specs.CrashOutcomes.{Stays, HasCause};
 ghost use Rattle.commit_log.specs.LogImage.{frame_place};
-ghost use Rattle.commit_log.specs.Opening.{Found, Refused, AllRead, Stopped, BeginsOtherwise, BeginsWith};
-ghost use Rattle.commit_log.specs.Pieces.{Buffers};
+ghost use Rattle.commit_log.specs.Opening.{ReadsLog, ReadsFirst, ReadsFrames};
+ghost use Rattle.commit_log.specs.Pieces.{Buffers, BuffersBehind};
 
 use crate::blocks::COMMITTED;
 use crate::body_reader::BodyReader;
@@ -34,7 +34,7 @@ pub fn read_log<D: Disk, R: BodyReader>(
     requires limit { limit + 1 < 2 ^ 32 }
     requires buffer { length head.now < length buffer.old }
     requires reader { (limit ≤ R.room reader.old) × R.holds reader.old [] }
-    ensures read { MatchResult result (λ count. Found R.is_body (R.holds reader.new) head.now count (D.state disk.old) (D.state disk.new)) (Refused R.is_body head.now limit (D.state disk.old) (D.state disk.new)) }
+    ensures read { ReadsLog R.is_body (R.holds reader.new) head.now limit (D.state disk.old) (D.state disk.new) result }
     ensures within { IfOk result (λ count. count ≤ limit) }
     ensures capacity { R.capacity reader.new ≡ R.capacity reader.old }
     ensures stays { Stays (D.state disk.old) (D.state disk.new) }
@@ -58,8 +58,8 @@ fn first_commit<D: Disk>(
     buffer: &mut [u8],
 ) -> Result<Option<Behind>, Failed>
     requires buffer { length head.now < length buffer.old }
-    ensures buffers { IfOk result (λ found. MatchOption found (Unit {0}) (λ b. Buffers (D.state disk.new) (frame_place (length head.now) 1) b.piece buffer.new)) }
-    ensures first { IfOk result (λ found. MatchOption found (BeginsOtherwise head.now (D.state disk.old)) (λ b. BeginsWith head.now b.next (D.state disk.old))) }
+    ensures buffers { IfOk result (BuffersBehind (D.state disk.new) (frame_place (length head.now) 1) buffer.new) }
+    ensures first { IfOk result (ReadsFirst head.now (D.state disk.old)) }
     ensures stays { Stays (D.state disk.old) (D.state disk.new) }
     ensures cause { HasCause (D.state disk.old) (D.state disk.new) result }
 {
@@ -99,7 +99,7 @@ fn read_frames<D: Disk, R: BodyReader>(
     requires buffer { body_len < length buffer.old }
     requires buffers { Buffers (D.state disk.old) (frame_place body_len 1) first.piece buffer.old }
     requires reader { (limit ≤ R.room reader.old) × R.holds reader.old [] }
-    ensures read { MatchResult result (λ count. AllRead R.is_body (R.holds reader.new) body_len first.next count (D.state disk.old)) (Stopped R.is_body body_len limit first.next (D.state disk.old) (D.state disk.new)) }
+    ensures read { ReadsFrames R.is_body (R.holds reader.new) body_len limit first.next (D.state disk.old) (D.state disk.new) result }
     ensures within { IfOk result (λ count. count ≤ limit) }
     ensures capacity { R.capacity reader.new ≡ R.capacity reader.old }
     ensures stays { Stays (D.state disk.old) (D.state disk.new) }

@@ -1,14 +1,14 @@
 //! Reading a log in pieces of many frames.
-ghost use Rattle.std.specs.Prelude.{◌≡◌, ◌≤◌, ◌<◌, ◌+◌, ℕ, length, IfOk, MatchOption};
+ghost use Rattle.std.specs.Prelude.{◌≡◌, ◌≤◌, ◌<◌, ◌+◌, ℕ, length, IfOk};
 ghost use Rattle.crash_disk.specs.CrashOutcomes.{Stays, HasCause};
 ghost use Rattle.commit_log.specs.LogImage.{frame_place};
-ghost use Rattle.commit_log.specs.Pieces.{Buffers, HasNext, ReadsFrame, ReadsNone};
+ghost use Rattle.commit_log.specs.Pieces.{Buffers, BuffersBehind, HasNext, ReadsNext};
 
 use crate::blocks::place_of_frame;
 use crate::body_reader::BodyReader;
 use crash_disk::{Disk, Failed};
 
-/// The bytes of a buffer that were read from the disk and not yet looked at: those from `at` to `end`.
+/// The bytes of a buffer that were read from the disk and not yet looked at, from `at` to `end`.
 #[derive(Clone, Copy)]
 pub struct Piece {
     pub at: usize,
@@ -66,8 +66,8 @@ pub fn read_frame<D: Disk, R: BodyReader>(
     requires before { Buffers (D.state disk.old) (frame_place body_len number) piece buffer.old }
     requires room { body_len < length buffer.old }
     requires reader { 1 ≤ R.room reader.old }
-    ensures buffers { IfOk result (λ found. MatchOption found (Unit {0}) (λ b. Buffers (D.state disk.new) (frame_place body_len number + (body_len + 1)) b.piece buffer.new)) }
-    ensures frame { IfOk result (λ found. MatchOption found (ReadsNone R.is_body (D.state disk.new) body_len number) (λ b. ReadsFrame R.is_body (R.holds reader.old) (R.holds reader.new) (D.state disk.new) body_len number b.next)) }
+    ensures buffers { IfOk result (BuffersBehind (D.state disk.new) (frame_place body_len (number + 1)) buffer.new) }
+    ensures frame { IfOk result (ReadsNext R.is_body (R.holds reader.old) (R.holds reader.new) (D.state disk.new) body_len number) }
     ensures room { R.room reader.old ≤ R.room reader.new + 1 }
     ensures capacity { R.capacity reader.new ≡ R.capacity reader.old }
     ensures stays { Stays (D.state disk.old) (D.state disk.new) }

@@ -9,7 +9,8 @@ use crate::body_reader::BodyReader;
 use crate::durable::write_durably;
 use crash_disk::{Disk, Failed};
 
-/// Writes a frame behind those that are there, with an uncommitted frame behind it, and then commits it.
+/// Writes a frame behind those that are there, and behind it a commit byte that does not commit the
+/// next one; and then commits it.
 pub fn write_frame<D: Disk, R: BodyReader>(
     disk: &mut D,
     body_len: u32,

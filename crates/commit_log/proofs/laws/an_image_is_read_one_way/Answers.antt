@@ -21,14 +21,17 @@ pub returns-clause-not_foreign : goal.returns-clause-not_foreign
 returns-clause-not_foreign g c head image bodies s foreign = let there = begins head image bodies s.next s.rest s.parts in foreign there.0 there.1 there.2
 
 pub returns-clause-not_both : goal.returns-clause-not_both
-returns-clause-not_both g c head image limit k foreign d = let there = begins head image d.bodies COMMITTED d.rest d.parts in foreign there.0 there.1 there.2
+returns-clause-not_both g c head image limit foreign damaged = let d = damaged.1 in let there = begins head image d.bodies COMMITTED d.rest d.parts in foreign there.0 there.1 there.2
 
 pub returns-clause-not_damaged : goal.returns-clause-not_damaged
-returns-clause-not_damaged g c head image bodies limit k within s d = elim (compare_images g.R.BodyReader.is_body head image bodies s.next s.rest d.bodies COMMITTED d.rest s.lawful d.lawful s.parts d.parts) [
-  | inl equal ↦ s.uncommitted equal.1
-  | inr (inl short) ↦ s.uncommitted short.commits
-  | inr (inr short) ↦ ends_there g.R.BodyReader.is_body head limit k image d bodies within short
-]
+returns-clause-not_damaged g c head image limit stands damaged =
+    let s = stands.2 in
+    let d = damaged.1 in
+    elim (compare_images g.R.BodyReader.is_body head image stands.0 s.next s.rest d.bodies COMMITTED d.rest s.lawful d.lawful s.parts d.parts) [
+      | inl equal ↦ s.uncommitted equal.1
+      | inr (inl short) ↦ s.uncommitted short.commits
+      | inr (inr short) ↦ ends_there g.R.BodyReader.is_body head limit damaged.0 image d stands.0 stands.1 short
+    ]
 
 pub returns-clause-one_damage : goal.returns-clause-one_damage
 returns-clause-one_damage g c head image limit j k d e = elim (compare_images g.R.BodyReader.is_body head image d.bodies COMMITTED d.rest e.bodies COMMITTED e.rest d.lawful e.lawful d.parts e.parts) [

@@ -1,6 +1,7 @@
 use Rattle.std.proofs.Common.{◌≡◌, ◌+◌, ◌-◌, ◌<◌, ◌++◌, ◌∷◌, ℕ, take, drop, sym, ◌∙◌, ap, arith, length-take, length-drop}
 use Rattle.std.specs.Prelude.{slice_index_or}
 use Rattle.std.proofs.lemmas.List.{drop_at}
+use Rattle.commit_log.proofs.Bodies.{next_place}
 use Rattle.commit_log.proofs.Windows.{block_there, same_body, moved}
 use Rattle.commit_log.proofs.pieces.read_frame.Goals as goal
 
@@ -21,7 +22,7 @@ returns-then-not-read-clause-frame g c front rest there told body next more long
 pub returns-clause-buffers : goal.returns-clause-buffers
 returns-clause-buffers g c =
     moved (g.D.Disk.state c.with_block.new.disk) c.place_of_frame-place.result c.in_ok-piece.piece c.with_block.new.buffer (c.args.body_len + 1) _ _ c.in_ok-piece.ensures.buffers
-    (omega (arith, c.len.ensures, c.if-len-body_end.false)) (omega arith) (omega (arith, c.place_of_frame-place.ensures))
+    (omega (arith, c.len.ensures, c.if-len-body_end.false)) (omega arith) (omega (arith, c.place_of_frame-place.ensures, next_place c.args.body_len c.args.number))
 
 pub returns-clause-frame : goal.returns-clause-frame
 returns-clause-frame g c =
