@@ -1,5 +1,5 @@
 -- Reading bytes from their front: fields of a fixed width, and numbers of four bytes.
-use Rattle.std.specs.Prelude.{ℕ, nat_lt, List, take, drop, length, Option, Some, None, if◌then◌else◌}
+use Rattle.std.specs.Prelude.{ℕ, ◌-◌, nat_lt, List, ◌++◌, take, drop, length, replicate, Option, Some, None, if◌then◌else◌}
 use Rattle.std.specs.Int.{w32, to_be_bytes, from_be_bytes}
 use Rattle.ali_base.specs.Steps.{◌>>=◌}
 
@@ -10,6 +10,10 @@ front width bytes = if nat_lt (length bytes) width then None else Some (take wid
 -- four bytes, the highest first
 abbrev pub number_bytes : ℕ → List ℕ
 number_bytes n = to_be_bytes w32 n
+
+-- the bytes, and zeros after them up to this width
+abbrev pub zero_filled : ℕ → List ℕ → List ℕ
+zero_filled width bytes = bytes ++ replicate (width - length bytes) 0
 
 -- a number of four bytes, and what is left after it
 unfoldable pub number_at : List ℕ → Option (ℕ × List ℕ)

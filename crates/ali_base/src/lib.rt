@@ -22,6 +22,7 @@ mod std_streams;
 mod street_key;
 mod tn;
 mod whole_puts;
+mod zero_filled;
 
 pub use company::Company;
 pub use cycle::{Cycle, LAST_CYCLE};
@@ -44,6 +45,7 @@ pub use std_streams::{ReaderSource, WriterSink};
 pub use street_key::StreetKey;
 pub use tn::Tn;
 pub use whole_puts::{SinkFault, put_all};
+pub use zero_filled::ZeroFilled;
 
 #[cfg(test)]
 mod tests;

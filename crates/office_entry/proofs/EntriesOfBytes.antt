@@ -11,7 +11,7 @@ use Rattle.ali_base.specs.Parity.{parity_text}
 use Rattle.ali_base.specs.declared.parity.Parity.{Parity}
 use Rattle.ali_base.specs.declared.parity.Parity.TheVariants.{Odd, Even, Both}
 use Rattle.ali_base.specs.declared.street_key.StreetKey.{StreetKey}
-use Rattle.ali_base.specs.Fronts.{front, number_at, number_bytes}
+use Rattle.ali_base.specs.Fronts.{front, number_at, number_bytes, zero_filled}
 use Rattle.ali_base.proofs.DayTexts.{day_of-text, day_of-found, length-day_text}
 use Rattle.ali_base.proofs.Steps.{bind_ok, bind_some, some_is}
 use Rattle.office_entry.specs.declared.edit.Edit.{Edit as AnyEdit}
@@ -22,7 +22,7 @@ use Rattle.office_entry.specs.EditBytes.{key_bytes, edit_bytes}
 use Rattle.office_entry.specs.EditKeys.{IsEditKey}
 use Rattle.office_entry.specs.Edits.{IsEdit}
 use Rattle.office_entry.specs.BytesReading.{edit_from}
-use Rattle.office_entry.specs.EntryBytes.{IsInRange, IsCycle, entry_fields, entry_bytes, zero_filled}
+use Rattle.office_entry.specs.EntryBytes.{IsInRange, IsCycle, entry_fields, entry_bytes}
 use Rattle.office_entry.specs.EntryReading.{are_zeros, number_within, open_from, line_from, edit_width, edit_entry_from, entry_from}
 use Rattle.office_entry.proofs.EditsOfBytes.{edit_found, edit_again}
 use Rattle.ali_base.proofs.FrontsAgain.{IsBytes, Takes-then, front_takes, front_again, number_takes, number_again, text_fits}

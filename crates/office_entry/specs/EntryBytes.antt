@@ -1,9 +1,10 @@
 -- The bytes of an entry, of which there are 631.
-use Rattle.std.specs.Prelude.{◌≡◌, ℕ, ◌-◌, ◌^◌, ◌<◌, ◌≤◌, true, List, ◌∷◌, ◌++◌, length, replicate}
+use Rattle.std.specs.Prelude.{◌≡◌, ℕ, ◌^◌, ◌<◌, ◌≤◌, true, List, ◌∷◌, ◌++◌, length}
 use Rattle.ali_base.specs.CivilDay.{IsDay, day_text}
 use Rattle.ali_base.specs.Company.{is_company}
 use Rattle.ali_base.specs.Editors.{IsEditor, IsSerial}
-use Rattle.ali_base.specs.Fronts.{number_bytes}
+use Rattle.ali_base.specs.declared.cycle.TheConstants.{LAST_CYCLE}
+use Rattle.ali_base.specs.Fronts.{number_bytes, zero_filled}
 use Rattle.office_entry.specs.EditBytes.{edit_bytes}
 use Rattle.office_entry.specs.Edits.{IsEdit}
 use Rattle.office_entry.specs.declared.entry.Entry.{Entry}
@@ -11,7 +12,7 @@ use Rattle.office_entry.specs.declared.entry.Entry.TheVariants.{Open, Line, Edit
 
 -- a cycle: 1 to 999,999
 abbrev pub IsCycle : ℕ → Type 0
-IsCycle cycle = (1 ≤ cycle) × (cycle ≤ 999_999)
+IsCycle cycle = (1 ≤ cycle) × (cycle ≤ LAST_CYCLE)
 
 -- each field of the entry is in its range; a count and a line are any number of four bytes
 abbrev pub IsInRange : Entry → Type 0
@@ -24,10 +25,6 @@ abbrev pub entry_fields : Entry → List ℕ
 entry_fields (Open company cycle count day digest) = 79 ∷ company ++ number_bytes cycle ++ number_bytes count ++ day_text day ++ digest
 entry_fields (Line company cycle line bytes) = 76 ∷ company ++ number_bytes cycle ++ number_bytes line ++ bytes
 entry_fields (Edit editor serial edit) = 69 ∷ editor ∷ number_bytes serial ++ edit_bytes edit
-
--- the bytes, and zeros after them up to this width
-abbrev pub zero_filled : ℕ → List ℕ → List ℕ
-zero_filled width bytes = bytes ++ replicate (width - length bytes) 0
 
 -- the bytes of an entry
 unfoldable pub entry_bytes : Entry → List ℕ

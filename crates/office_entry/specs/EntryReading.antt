@@ -3,6 +3,8 @@ use Rattle.std.specs.Prelude.{ℕ, ◌==◌, ◌&&◌, Bool, nat_le, List, [], �
 use Rattle.std.specs.List.{list_all}
 use Rattle.ali_base.specs.CivilDay.{day_of}
 use Rattle.ali_base.specs.Company.{company_of}
+use Rattle.ali_base.specs.declared.cycle.TheConstants.{LAST_CYCLE}
+use Rattle.ali_base.specs.declared.editor.TheConstants.{EDITORS, LAST_SERIAL}
 use Rattle.ali_base.specs.Fronts.{front, number_at}
 use Rattle.ali_base.specs.Steps.{◌>>=◌, when}
 use Rattle.office_entry.specs.BytesReading.{edit_from}
@@ -26,7 +28,7 @@ open_from bytes = do
   day ← front 6 count.1
   digest ← front 32 day.1
   c ← company_of company.0
-  n ← number_within 1 999_999 cycle.0
+  n ← number_within 1 LAST_CYCLE cycle.0
   d ← day_of day.0
   when (are_zeros digest.1) (Open c n count.0 d digest.0)
 
@@ -38,7 +40,7 @@ line_from bytes = do
   line ← number_at cycle.1
   sent ← front 512 line.1
   c ← company_of company.0
-  n ← number_within 1 999_999 cycle.0
+  n ← number_within 1 LAST_CYCLE cycle.0
   when (are_zeros sent.1) (Line c n line.0 sent.0)
 
 -- how many bytes an edit has, by its letter, with which the bytes begin; 0 for any other letter
@@ -57,8 +59,8 @@ edit_entry_from [] = None
 edit_entry_from (editor ∷ bytes) = do
   serial ← number_at bytes
   fields ← front (edit_width serial.1) serial.1
-  i ← number_within 1 64 editor
-  n ← number_within 1 999_999_999 serial.0
+  i ← number_within 1 EDITORS editor
+  n ← number_within 1 LAST_SERIAL serial.0
   edit ← edit_from fields.0
   when (are_zeros fields.1) (Edit i n edit)
 

@@ -1,13 +1,12 @@
 //! Entries as bytes, and back.
-ghost use Rattle.std.specs.Prelude.{◌≡◌, Some, IfSome};
+ghost use Rattle.std.specs.Prelude.{◌≡◌, [], ◌∷◌, length, Some, IfSome};
 ghost use Rattle.office_entry.specs.EntryBytes.{IsInRange, entry_fields, entry_bytes};
 ghost use Rattle.office_entry.specs.EntryReading.{entry_from};
 
 use crate::edit::Edit;
 use crate::entry::Entry;
-use crate::entry_fields::EntryFields;
 use crate::entry_reading::entry_from;
-use ali_base::{Company, Cycle, Day, Editor, Serial};
+use ali_base::{Company, Cycle, Day, Editor, Serial, ZeroFilled};
 
 impl Entry {
     ghost use Rattle.office_entry.specs.declared.entry.Entry.{Entry as AnyEntry};
@@ -35,7 +34,7 @@ impl Entry {
     }
 
     // Its letter and its fields.
-    fn fields(&self) -> EntryFields
+    fn fields(&self) -> ZeroFilled<631>
         ensures bytes { result ≡ entry_fields self.now }
         ensures lawful { IsInRange self.now }
     {
@@ -62,6 +61,16 @@ impl Entry {
     }
 }
 
+// The letter alone.
+fn letter(letter: u8) -> ZeroFilled<631>
+    ensures bytes { result ≡ letter ∷ [] }
+    ensures len { length result ≡ 1 }
+{
+    let mut fields = ZeroFilled::new();
+    fields.push(&[letter]);
+    fields
+}
+
 // The fields of an opening.
 fn open_fields(
     company: Company,
@@ -69,11 +78,11 @@ fn open_fields(
     count: u32,
     day: Day,
     digest: &[u8; 32],
-) -> EntryFields
+) -> ZeroFilled<631>
     ensures bytes { result ≡ entry_fields (Entry.Open company cycle count day digest.now) }
     ensures lawful { IsInRange (Entry.Open company cycle count day digest.now) }
 {
-    let mut fields = EntryFields::new(b'O');
+    let mut fields = letter(b'O');
     fields.push(&company.text());
     fields.push_number(cycle.number());
     fields.push_number(count);
@@ -83,11 +92,11 @@ fn open_fields(
 }
 
 // The fields of a line.
-fn line_fields(company: Company, cycle: Cycle, line: u32, bytes: &[u8; 512]) -> EntryFields
+fn line_fields(company: Company, cycle: Cycle, line: u32, bytes: &[u8; 512]) -> ZeroFilled<631>
     ensures bytes { result ≡ entry_fields (Entry.Line company cycle line bytes.now) }
     ensures lawful { IsInRange (Entry.Line company cycle line bytes.now) }
 {
-    let mut fields = EntryFields::new(b'L');
+    let mut fields = letter(b'L');
     fields.push(&company.text());
     fields.push_number(cycle.number());
     fields.push_number(line);
@@ -96,13 +105,13 @@ fn line_fields(company: Company, cycle: Cycle, line: u32, bytes: &[u8; 512]) -> 
 }
 
 // The fields of an editor's edit.
-fn edit_fields(editor: Editor, serial: Serial, edit: &Edit) -> EntryFields
+fn edit_fields(editor: Editor, serial: Serial, edit: &Edit) -> ZeroFilled<631>
     ensures bytes { result ≡ entry_fields (Entry.Edit editor serial edit.now) }
     ensures lawful { IsInRange (Entry.Edit editor serial edit.now) }
 {
     let mut bytes = [0; 128];
     let len = edit.bytes(&mut bytes);
-    let mut fields = EntryFields::new(b'E');
+    let mut fields = letter(b'E');
     fields.push(&[editor.number()]);
     fields.push_number(serial.number());
     fields.push(&bytes[..len]);

@@ -6,7 +6,6 @@ mod edit;
 mod edit_key;
 mod entry;
 mod entry_bytes;
-mod entry_fields;
 mod entry_laws;
 mod entry_reading;
 mod esn_sent;
