@@ -5,3 +5,4 @@ pub mod StoredRecords
 pub mod ActedRows
 pub mod LineRows
 pub mod SoundLines
+pub mod LineTables

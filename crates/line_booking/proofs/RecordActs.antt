@@ -1,7 +1,7 @@
 -- What it says of a record that it is read, and that something is done with it.
-use Rattle.std.proofs.Common.{◌≡◌, ℕ, ◌≤◌, ◌==◌, ◌&&◌, nat_lt, Bool, true, false, cond, List, [], ◌∷◌, length, refl, ap, sym, ◌∙◌, arith, Option, Some, None, is_none, IsSome, Result, Ok, Err, get_or}
+use Rattle.std.proofs.Common.{◌≡◌, ℕ, ◌≤◌, ◌==◌, ◌&&◌, nat_lt, nat_le, Bool, true, false, cond, List, [], ◌∷◌, length, refl, ap, sym, ◌∙◌, arith, Option, Some, None, is_none, IsSome, Result, Ok, Err, get_or}
 use Rattle.std.specs.List.{AllByRecursion, list_all}
-use Rattle.std.specs.FinMap.{get}
+use Rattle.std.specs.FinMap.{get, len}
 use Rattle.std.proofs.lemmas.Bool.{not-false}
 use Rattle.std.proofs.lemmas.Bool.Decides.{nat_tests}
 use Rattle.std.proofs.lemmas.List.{get_or_past}
@@ -50,15 +50,20 @@ read_tells company bytes h =
       house = λ sends. is_some _ (sym (ap (λ b. b && is_none (house_of (field_of bytes HouseNumber))) sends) ∙ none.1.1.1.1.1.1.0);
     }
 
--- a record with which this is done is read, the life of its number says so, and its address has no fault
-pub record IsJudged (ranges : List Range) (table : NumberTable) (company bytes : List ℕ) (act : LifeAct) : Type 0 where
+-- a record with which this is done is read, the life of its number says so, its address has no fault, and no insert finds the table at its limit
+pub record IsJudged (ranges : List Range) (table : NumberTable) (most : ℕ) (company bytes : List ℕ) (act : LifeAct) : Type 0 where
   pub reading : reading_code company bytes ≡ 0
   pub life : life_of (get table (field_of bytes TelephoneNumber)) bytes ≡ Ok act
   pub placed : address_fault ranges bytes ≡ None
+  pub room : ((byte_of bytes Function == 73) && nat_le most (len table)) ≡ false
 
-in_limit : (table : NumberTable) (most letter : ℕ) (r : Result LifeAct ℕ) (act : LifeAct) → within_limit table most letter r ≡ Ok act → r ≡ Ok act
-in_limit table most letter (Ok done) act h = grind arith
-in_limit table most letter (Err code) act h = h
+in_limit : (table : NumberTable) (most letter : ℕ) (r : Result LifeAct ℕ) (act : LifeAct) → within_limit table most letter r ≡ Ok act → (r ≡ Ok act) × (((letter == 73) && nat_le most (len table)) ≡ false)
+in_limit table most letter (Err code) act h = absurd (cc h)
+in_limit table most letter (Ok done) act h = by_test ((letter == 73) && nat_le most (len table)) h
+  where
+    by_test : (full : Bool) → ◌≡◌ {A = Result LifeAct ℕ} (cond full (Err 509) (Ok done)) (Ok act) → (◌≡◌ {A = Result LifeAct ℕ} (Ok done) (Ok act)) × (full ≡ false)
+    by_test true h = absurd (cc h)
+    by_test false h = (h, refl)
 
 is_placed : (fault : Option ℕ) (r : Result LifeAct ℕ) (act : LifeAct) → where_placed fault r ≡ Ok act → (r ≡ Ok act) × (fault ≡ None)
 is_placed None (Ok done) act h = (h, refl)
@@ -66,7 +71,7 @@ is_placed (Some code) (Ok done) act h = absurd cc
 is_placed fault (Err code) act h = absurd cc
 
 -- what it says that something is done with a record
-pub judged : (ranges : List Range) (table : NumberTable) (most : ℕ) (company bytes : List ℕ) (act : LifeAct) → record_act ranges table most company bytes ≡ Ok act → IsJudged ranges table company bytes act
+pub judged : (ranges : List Range) (table : NumberTable) (most : ℕ) (company bytes : List ℕ) (act : LifeAct) → record_act ranges table most company bytes ≡ Ok act → IsJudged ranges table most company bytes act
 unfolding record_act
 judged ranges table most company bytes act h = at (reading_code company bytes == 0) refl h
   where
@@ -76,8 +81,9 @@ judged ranges table most company bytes act h = at (reading_code company bytes ==
     life : Result LifeAct ℕ
     life = life_of (get table (field_of bytes TelephoneNumber)) bytes
 
-    at : (b : Bool) → (reading_code company bytes == 0) ≡ b → cond b (within_limit table most (byte_of bytes Function) (where_placed fault life)) (Err (reading_code company bytes)) ≡ Ok act → IsJudged ranges table company bytes act
+    at : (b : Bool) → (reading_code company bytes == 0) ≡ b → cond b (within_limit table most (byte_of bytes Function) (where_placed fault life)) (Err (reading_code company bytes)) ≡ Ok act → IsJudged ranges table most company bytes act
     at true e h =
-        let parts = is_placed fault life act (in_limit table most (byte_of bytes Function) (where_placed fault life) act h) in
-        record { reading = grind (arith, nat_tests); life = parts.0; placed = parts.1 }
+        let within = in_limit table most (byte_of bytes Function) (where_placed fault life) act h in
+        let parts = is_placed fault life act within.0 in
+        record { reading = grind (arith, nat_tests); life = parts.0; placed = parts.1; room = within.1 }
     at false e h = absurd cc

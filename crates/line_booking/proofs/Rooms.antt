@@ -43,15 +43,17 @@ stored_new bytes h = by_day (day_of (field_of bytes field.ExtractDate)) h
     by_day None h = absurd (cc h)
     by_day (Some day) h = insert_first (byte == 73) (byte == 67) (byte == 68) (byte == 85) (only_inserts (function_of byte) day h)
 
-in_room : (table : NumberTable) (found : Option Row) (bytes : List ℕ) (most : ℕ) → life_of found bytes ≡ Ok Store → ((byte_of bytes field.Function == 73) && nat_le most (len table)) ≡ false → most < 2 ^ 32 → IsSome found ⊎ (len table < 4_294_967_295)
-in_room table (Some row) bytes most h full small = inl refl
-in_room table None bytes most h full small =
+-- a record is stored over a row, or below the limit of numbers
+pub stored_within : (table : NumberTable) (found : Option Row) (bytes : List ℕ) (most : ℕ) → life_of found bytes ≡ Ok Store → ((byte_of bytes field.Function == 73) && nat_le most (len table)) ≡ false → IsSome found ⊎ (len table < most)
+stored_within table (Some row) bytes most h full = inl refl
+stored_within table None bytes most h full =
     let below : nat_le most (len table) ≡ false = sym (ap (λ b. b && nat_le most (len table)) (stored_new bytes h)) ∙ full in
-    inr (grind (arith, nat_tests, below, small))
+    inr (grind (arith, nat_tests, below))
 
 -- where the limit of numbers is not reached, a record that is stored has room
 pub has_room : (table : NumberTable) (bytes : List ℕ) (most : ℕ) (act : LifeAct) → life_of (get table (field_of bytes field.TelephoneNumber)) bytes ≡ Ok act
     → ((byte_of bytes field.Function == 73) && nat_le most (len table)) ≡ false → most < 2 ^ 32 → HasRoom table (field_of bytes field.TelephoneNumber) act
-has_room table bytes most Store h full small = in_room table (get table (field_of bytes field.TelephoneNumber)) bytes most h full small
+has_room table bytes most Store h full small =
+    elim (stored_within table (get table (field_of bytes field.TelephoneNumber)) bytes most h full) [ inl there ↦ inl there | inr below ↦ inr (omega (arith, below, small)) ]
 has_room table bytes most Remove h full small = tt
 has_room table bytes most (Unlock day) h full small = tt

@@ -14,7 +14,7 @@ use Rattle.ali_record.specs.Address.{record_key}
 use Rattle.ali_record.specs.FieldChanges.{with_field, with_esn}
 use Rattle.ali_record.specs.Layout.{field_of, byte_of}
 use Rattle.ali_record.specs.RecordReading.{sends_address}
-use Rattle.ali_record.specs.declared.field.Field.TheVariants.{Function, HouseNumber, Esn, Company}
+use Rattle.ali_record.specs.declared.field.Field.TheVariants.{Function, TelephoneNumber, HouseNumber, Esn, Company}
 use Rattle.ali_record.proofs.FieldTexts.{length-esn_text}
 use Rattle.ali_record.proofs.Overwriting.{part_before, part_after, part_inside}
 use Rattle.msag_edits.specs.GuideSoundness.{IsPlaced}
@@ -44,6 +44,10 @@ module _ (b text : List ℕ) (five : length text ≡ 5) (long : 230 ≤ length b
   -- its company is the same
   company_stays : field_of (with_field b Esn text) Company ≡ field_of b Company
   company_stays = part_after b text 225 230 260 5 (omega arith) long (omega arith)
+
+  -- and so is its telephone number
+  number_stays : field_of (with_field b Esn text) TelephoneNumber ≡ field_of b TelephoneNumber
+  number_stays = before 1 10 (omega arith)
 
 some_is : {A : Type 0} (x y : A) → Some x ≡ Some y → x ≡ y
 some_is x y h = cc
@@ -110,6 +114,13 @@ pub stored-company : (ranges : List Range) (bytes : List ℕ) → HaveFiveDigits
 stored-company ranges bytes small long = elim (stored_is ranges bytes) [
   | inl same ↦ ap (λ b. field_of b Company) same
   | inr h ↦ ap (λ b. field_of b Company) h.is ∙ company_stays bytes (zero_padded 5 h.range.esn) (length-esn_text h.range.esn (small_there ranges bytes small h)) long
+]
+
+-- and the telephone number
+pub stored-number : (ranges : List Range) (bytes : List ℕ) → HaveFiveDigits ranges → 230 ≤ length bytes → field_of (stored ranges bytes) TelephoneNumber ≡ field_of bytes TelephoneNumber
+stored-number ranges bytes small long = elim (stored_is ranges bytes) [
+  | inl same ↦ ap (λ b. field_of b TelephoneNumber) same
+  | inr h ↦ ap (λ b. field_of b TelephoneNumber) h.is ∙ number_stays bytes (zero_padded 5 h.range.esn) (length-esn_text h.range.esn (small_there ranges bytes small h)) long
 ]
 
 not_lost : {A B : Type 0} (f : A → B) (o : Option A) → IsSome o → option_map f o ≡ None → ⊥
