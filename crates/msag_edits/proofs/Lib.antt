@@ -6,3 +6,4 @@ pub mod PartsAndShifts
 pub mod GuideEdits
 pub mod EditedGuides
 pub mod EditedRows
+pub mod RangeIds
