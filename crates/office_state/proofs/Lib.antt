@@ -7,3 +7,4 @@ pub mod KeptCodes
 pub mod SoundHistories
 pub mod EditSteps
 pub mod SoundOffices
+pub mod Changes

@@ -7,3 +7,4 @@ pub mod History
 pub mod Refusals
 pub mod EditReaders
 pub mod Booked
+pub mod Unlocks
