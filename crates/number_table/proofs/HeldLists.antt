@@ -27,7 +27,7 @@ put-first k v [] h = refl
 put-first k v (e ∷ es) h = ap (λ o. ordered.by_order o ((k, v) ∷ e ∷ es) ((e.0, v) ∷ es) (e ∷ ordered.put tn_cmp k v es)) h.0
 
 -- entries in order are those of the map that they make
-entries-in_order : (es : List (List ℕ × Row)) → IsStrictlySortedBy tn_cmp (keys_of es) → entries (map_of es) ≡ es
+pub entries-in_order : (es : List (List ℕ × Row)) → IsStrictlySortedBy tn_cmp (keys_of es) → entries (map_of es) ≡ es
 unfolding IsStrictlySortedBy
 entries-in_order [] h = no_length (entries (map_of [])) (sym (len-entries (map_of [])) ∙ len-empty tn_cmp Row)
 entries-in_order (e ∷ es) h =

@@ -2,3 +2,4 @@ pub mod Lookups
 pub mod HeldLists
 pub mod HeldAddresses
 pub mod ChangedRows
+pub mod RowLists

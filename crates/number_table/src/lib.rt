@@ -5,7 +5,9 @@ mod houses;
 mod row_changes;
 mod row_mover;
 mod rows;
+mod rows_in_order;
 
 pub use houses::added;
 pub use row_mover::RowMover;
 pub use rows::Rows;
+pub use rows_in_order::RowsInOrder;

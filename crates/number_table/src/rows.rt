@@ -9,6 +9,7 @@ ghost use Rattle.number_table.specs.HeldRows.{holds_row, count_held};
 
 use crate::row_changes::{is_held, set_row_esn, shift_row};
 use crate::row_mover::RowMover;
+use crate::rows_in_order::RowsInOrder;
 use ali_base::{Day, Esn, NoMemory, Tn};
 use msag_ranges::Range;
 use number_life::Row;
@@ -75,6 +76,15 @@ impl Rows {
         ensures { option_copied result ≡ map.get self.now tn }
     {
         self.by_tn.get(&tn)
+    }
+
+    /// The rows in the order of their numbers, each once.
+    pub fn in_order(&self) -> RowsInOrder<'_>
+        ensures { result ≡ map.values self.now }
+    {
+        RowsInOrder {
+            rows: self.by_tn.values(),
+        }
     }
 
     /// Makes this the row of the number. Asks that the number has a row, or that there is room for one

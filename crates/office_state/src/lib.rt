@@ -21,6 +21,7 @@ pub use laws::{
     owners_change_by_migrate, owners_unlock_their_rows, rows_have_their_numbers,
 };
 pub use limits::Limits;
+pub use number_table::RowsInOrder;
 pub use office::Office;
 pub use verdict::Verdict;
 

@@ -15,6 +15,7 @@ use crate::verdict::Verdict;
 use ali_base::{Company, Cycle, Editor, Serial, Tn};
 use msag_ranges::Guide;
 use number_life::Row;
+use number_table::RowsInOrder;
 use sequence_once::{CycleFault, KeptCycle, Last, Standing};
 
 impl Office {
@@ -24,6 +25,14 @@ impl Office {
         ensures sound { IsSoundOffice self.now }
     {
         self.rows.get(tn)
+    }
+
+    /// The rows in the order of their numbers, each once.
+    pub fn rows_in_order(&self) -> RowsInOrder<'_>
+        ensures rows { result ≡ map.values self.now.state.table }
+        ensures sound { IsSoundOffice self.now }
+    {
+        self.rows.in_order()
     }
 
     /// The street guide.
