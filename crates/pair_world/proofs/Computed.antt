@@ -1,5 +1,5 @@
 -- Schedules whose entries are data, computed: the world after each event, and what is asked of it.
-use Rattle.std.proofs.Common.{◌≡◌, suc, ◌<◌, inl, Bool, true, false, not, ◌&&◌, ◌==◌, nat_lt, List, [], ◌∷◌, length, refl, ap, arith, Option, Some, None}
+use Rattle.std.proofs.Common.{sym, ◌≡◌, suc, ◌<◌, inl, Bool, true, false, not, ◌&&◌, ◌==◌, nat_lt, List, [], ◌∷◌, length, refl, ap, arith, Option, Some, None}
 use Rattle.std.proofs.lemmas.Bool.{and_parts}
 use Rattle.std.proofs.lemmas.Bool.Decides.{nat_tests}
 use Rattle.ali_base.specs.Steps.{when}
@@ -13,12 +13,10 @@ use Rattle.pair_world.specs.Changes.{written, shipped, delivered, booked_next, d
 use Rattle.pair_world.specs.Step.{Event, Write, Ship, Deliver, Drop, Book, Take, Go_alone, Pair_up, Stop, Start, Start_duty, Ask, Outcome, Done, Answered, Refused, Faulted, Halted, CanDeliver, CanLeavePair, WorldStep, Step, Turn, Runs}
 use Rattle.pair_world.specs.WorkedSchedules.{office_bounds}
 use Rattle.pair_world.proofs.Items.{on_item}
+use Rattle.pair_world.proofs.Items.{some_is}
 
 when_told : {A : Type 0} (b : Bool) (x y : A) → when b x ≡ Some y → (b ≡ true) × (y ≡ x)
-when_told true x y is = (refl, some_is x y is)
-  where
-    some_is : {A : Type 0} (x y : A) → ◌≡◌ {A = Option A} (Some x) (Some y) → y ≡ x
-    some_is x y h = cc
+when_told true x y is = (refl, sym (some_is x y is))
 when_told false x y is = absurd (cc)
 
 abbrev is_both : Mode → Bool

@@ -9,8 +9,9 @@ use Rattle.pair_world.specs.World.{told_by, Shipment}
 use Rattle.pair_world.specs.Deliveries.{Answer, Behind, Have, Cut, Stored, Have_end, differs_before, old_next, answer_in}
 use Rattle.pair_world.specs.SoundWorld.{Tells}
 use Rattle.pair_world.proofs.Parts.{UncommittedSuffix, Follows}
-use Rattle.pair_world.proofs.Items.{nth_more, by_test}
+use Rattle.pair_world.proofs.Items.{nth_more}
 use Rattle.pair_world.proofs.Lists.{epoch_is, Shares-less, Shares-epoch, Begins-Shares, Shares-Begins, Shares-take, Agree-Shares}
+use Rattle.std.proofs.lemmas.Bool.{cond_both}
 
 -- a cut takes the old suffix, and nothing that the two share
 pub record CutFits {E : Type 0} (n : ℕ) (xs ys : List (Frame E)) : Type 0 where
@@ -110,25 +111,25 @@ module _ {E : Type 0} (since top : ℕ) (xs ys : List (Frame E)) (x : Shipment E
   pub answer_fits : (o : Option (Frame E)) → Tells xs x o → x.preceding ≤ length ys → Fits since xs ys x (answer_in ys (told_by x) o)
   answer_fits (Some f) says fits =
       let n = nth_more xs x.preceding f says in
-      by_test (Fits since xs ys x) (nat_lt x.preceding (length ys)) _ _
+      cond_both (nat_lt x.preceding (length ys)) _ _ (Fits since xs ys x)
       (λ long.
       let right : suc x.preceding ≤ length ys = grind (arith, nat_tests) in
-      by_test (Fits since xs ys x) (epoch_at ys (suc x.preceding) == f.epoch) _ _
+      cond_both (epoch_at ys (suc x.preceding) == f.epoch) _ _ (Fits since xs ys x)
       (λ same. Agree-Shares agree (suc x.preceding) n.0 right (grind (arith, nat_tests, epoch_is xs x.preceding f says)))
       (λ other. cut_fits x.preceding right (λ s.
       let k = Shares-epoch s (suc x.preceding) (omega arith) in
       grind (arith, nat_tests, epoch_is xs x.preceding f says))))
       (λ short.
       let len : length ys ≡ x.preceding = grind (arith, nat_tests) in
-      by_test (Fits since xs ys x) (differs_before ys (told_by x)) _ _
+      cond_both (differs_before ys (told_by x)) _ _ (Fits since xs ys x)
       (λ differs. cut_before differs fits)
       (λ same. stored_fits f says len (shares_before same (omega arith) fits)))
   answer_fits None says fits =
-      by_test (Fits since xs ys x) (differs_before ys (told_by x)) _ _
+      cond_both (differs_before ys (told_by x)) _ _ (Fits since xs ys x)
       (λ differs. cut_before differs fits)
       (λ same.
       let shared = shares_before same says.0 fits in
-      by_test (Fits since xs ys x) (old_next ys (told_by x)) _ _
+      cond_both (old_next ys (told_by x)) _ _ (Fits since xs ys x)
       (λ old.
       let parts = and_parts (nat_lt x.preceding (length ys)) (nat_lt (epoch_at ys (suc x.preceding)) x.epoch) old in
       let right : suc x.preceding ≤ length ys = grind (arith, nat_tests, parts.0) in

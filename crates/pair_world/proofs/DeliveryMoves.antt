@@ -13,10 +13,12 @@ use Rattle.pair_world.specs.Deliveries.{Answer, Behind, Have, Cut, Stored, Have_
 use Rattle.pair_world.specs.Changes.{with_ack}
 use Rattle.pair_world.specs.SoundWorld.{HasEnd, AckHolds}
 use Rattle.pair_world.proofs.Parts.{Follows, InStep, Parts}
-use Rattle.pair_world.proofs.Items.{by_test, bool_is, suc_is, which}
+use Rattle.pair_world.proofs.Items.{suc_is, which}
 use Rattle.pair_world.proofs.Lists.{Shares-more, Shares-sym, Begins-trans, Begins-more}
 use Rattle.pair_world.proofs.Deliveries.{Fits, answer_fits}
 use Rattle.pair_world.proofs.Moves.{keeps_moved, keeps_ack, keeps_heard}
+use Rattle.std.proofs.lemmas.Bool.{cond_both}
+use Rattle.pair_world.proofs.Items.{some_is}
 
 module _ {E : Type 0} {due : List E → E → Type 0} {d : Duty} {ds : List Duty} {h xs ys : List (Frame E)} {known_by : NodeName → ℕ} {ms : List (Message E)} {reached ended : ℕ} (p : Parts due d ds h xs ys known_by ms reached ended) where
   -- a shipment that is not stale moves the other's journal by its answer
@@ -44,15 +46,15 @@ module _ {E : Type 0} {due : List E → E → Type 0} {d : Duty} {ds : List Duty
   pub answer_ack : (x : Shipment E) (a : Answer E) → Fits (term_from d ds) xs ys x a → (end : Bool) → ack_end a ≡ Some end → AckHolds end x.preceding xs (journal_after ys a)
   answer_ack x Behind fits end is = absurd (cc)
   answer_ack x (Cut n) fits end is = absurd (cc)
-  answer_ack x Have fits end is = subst (λ b. AckHolds b x.preceding xs ys) (bool_is false end is) fits
-  answer_ack x (Stored f) fits end is = subst (λ b. AckHolds b x.preceding xs (ys ++ f ∷ [])) (bool_is false end is) fits.2
-  answer_ack x Have_end fits end is = subst (λ b. AckHolds b x.preceding xs ys) (bool_is true end is) (record { shares = fits.0; begins = fits.1 })
+  answer_ack x Have fits end is = subst (λ b. AckHolds b x.preceding xs ys) (some_is false end is) fits
+  answer_ack x (Stored f) fits end is = subst (λ b. AckHolds b x.preceding xs (ys ++ f ∷ [])) (some_is false end is) fits.2
+  answer_ack x Have_end fits end is = subst (λ b. AckHolds b x.preceding xs ys) (some_is true end is) (record { shares = fits.0; begins = fits.1 })
 
   pub shipment_fits : (x : Shipment E) → In ms (Ships x) → known_by (other x.sender) ≤ x.epoch → Fits (term_from d ds) xs ys x (answer ys (told_by x))
   unfolding answer
   shipment_fits x i later =
       let o = p.ships x i later in
-      by_test (Fits (term_from d ds) xs ys x) (nat_lt (length ys) x.preceding) Behind (answer_in ys (told_by x) x.frame)
+      cond_both (nat_lt (length ys) x.preceding) Behind (answer_in ys (told_by x) x.frame) (Fits (term_from d ds) xs ys x)
       (λ behind. tt)
       (λ not_behind. answer_fits (term_from d ds) d.epoch xs ys x (follows d.mode p.step) p.agree p.time.others o.before o.term x.frame o.frame (grind (arith, nat_tests)))
     where

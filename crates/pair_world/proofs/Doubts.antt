@@ -62,14 +62,8 @@ module _ {E : Type 0} where
   sure_failed o ns B x s sure here A up = sure A up
   sure_failed o ns B x s sure here B up = here up
 
-pub no_duty : (d : Duty) → ◌≡◌ {A = Option Duty} None (Some d) → ⊥
-no_duty d e = absurd (cc)
-
 pub not_up : false ≡ true → ⊥
 not_up e = absurd (cc)
-
-pub some_duty : (d e : Duty) → ◌≡◌ {A = Option Duty} (Some d) (Some e) → d ≡ e
-some_duty d e h = cc
 
 pub same_journal : {E : Type 0} (n m : NodeName) (ns : Nodes E) (k : ℕ) → (node_at (put_node ns n (record (node_at ns n) { known = k })) m).journal ≡ (node_at ns m).journal
 same_journal A A ns k = refl

@@ -1,16 +1,17 @@
 -- Each row of refusals, passed exactly where its event can be done.
-use Rattle.std.proofs.Common.{◌≡◌, ℕ, suc, ◌<◌, ◌≤◌, ◌⊎◌, inl, inr, Bool, true, false, not, ◌||◌, cond, List, length, refl, ap, sym, ◌∙◌, subst, arith, Option, Some, None}
+use Rattle.std.proofs.Common.{◌≡◌, ℕ, suc, ◌<◌, ◌≤◌, ◌⊎◌, Bool, true, false, not, ◌||◌, cond, List, length, refl, sym, subst, arith, Some, None}
 use Rattle.ali_base.specs.declared.names.NodeName.{NodeName}
 use Rattle.ali_base.specs.declared.duty.Mode.{Mode}
 use Rattle.ali_base.specs.declared.duty.Mode.TheVariants.{Both, Alone}
-use Rattle.pair_world.specs.Frames.{Frame, Begins}
+use Rattle.pair_world.specs.Frames.{Frame}
 use Rattle.pair_world.specs.World.{other, is_node, Shipment, Ack, Ships, Acks, node_at, holder_journal, known, is_up, World, MayHold}
 use Rattle.pair_world.specs.Step.{Bounds, CanWrite, CanShip, CanBook, CanLeavePair, CanPair, CanHear}
 use Rattle.pair_world.specs.SoundWorld.{IsSound, Booked}
-use Rattle.pair_world.specs.Refusals.{Item, IsPassed, message_limit, is_alone, needed_length, short, ask_row, write_row, ship_row, message_row, book_row, take_row, pair_row, stop_row, start_row, start_duty_row}
+use Rattle.pair_world.specs.Refusals.{Item, IsPassed, message_limit, is_alone, needed_length, short, ask_row, write_row, ship_row, message_row, book_row, take_row, pair_row, start_row}
 use Rattle.pair_world.proofs.Lists.{Begins-length}
-use Rattle.pair_world.proofs.RowTests.{passed, passes, not_false, is_true, up_passed, up_passes, lt_passed, lt_passes, le_passed, le_passes, same_node, node_same, both_passed, both_passes, alone_passed, alone_passes, in_duty_passed, in_duty_passes, stored_passed, stored_passes}
+use Rattle.pair_world.proofs.RowTests.{passed, passes, not_false, is_true, up_passed, up_passes, lt_passed, lt_passes, le_passed, le_passes, both_passed, both_passes, alone_passed, alone_passes, in_duty_passed, in_duty_passes, stored_passed, stored_passes}
 use Rattle.pair_world.proofs.SoundSteps.{base_has_parts, journals_begin, holder_begins}
+use Rattle.pair_world.proofs.Terms.{same_node, node_same}
 
 module _ {E : Type 0} (due : List E → E → Type 0) (w : World E) where
   abbrev Passed : List (Item E) → Type 0

@@ -1,14 +1,27 @@
--- Tests, numbers, and items of lists.
-use Rattle.std.proofs.Common.{◌≡◌, ℕ, zero, suc, ◌<◌, ◌≤◌, ◌⊎◌, inl, inr, Bool, true, false, cond, ◌&&◌, List, [], ◌∷◌, ◌++◌, length, take, refl, ap, ◌∙◌, arith, Option, Some, None}
+-- Tests, numbers, items of lists, and messages.
+use Rattle.std.proofs.Common.{◌≡◌, ℕ, zero, suc, ◌<◌, ◌≤◌, ◌⊎◌, inl, inr, List, [], ◌∷◌, ◌++◌, length, take, refl, ap, ◌∙◌, arith, Option, Some, None}
 use Rattle.std.specs.Prelude.{slice_get, max}
 use Rattle.pair_world.specs.Frames.{item_at, In, OnItem, without}
+use Rattle.pair_world.specs.World.{Shipment, Ack, Message, Ships, Acks}
 
-pub by_test : {A : Type 0} (P : A → Type 0) (b : Bool) (s t : A) → (b ≡ true → P s) → (b ≡ false → P t) → P (cond b s t)
-by_test P true s t h k = h refl
-by_test P false s t h k = k refl
+pub some_is : {A : Type 0} (x y : A) → ◌≡◌ {A = Option A} (Some x) (Some y) → x ≡ y
+some_is x y e = cc
 
-pub bool_is : (a b : Bool) → ◌≡◌ {A = Option Bool} (Some a) (Some b) → a ≡ b
-bool_is a b e = cc
+pub none_some : {A : Type 0} (x : A) → ◌≡◌ {A = Option A} None (Some x) → ⊥
+none_some x e = absurd (cc)
+
+pub not_there : {A : Type 0} (x : A) (k : ℕ) → slice_get {X = A} [] k ≡ Some x → ⊥
+not_there x k e = absurd (cc)
+
+-- a message is of one kind, and is what it carries
+pub ship_is : {E : Type 0} (x y : Shipment E) → ◌≡◌ {A = Message E} (Ships x) (Ships y) → x ≡ y
+ship_is x y e = cc
+
+pub ack_is : {E : Type 0} (a c : Ack) → ◌≡◌ {A = Message E} (Acks a) (Acks c) → a ≡ c
+ack_is a c e = cc
+
+pub not_ack : {E : Type 0} (x : Shipment E) (a : Ack) → ◌≡◌ {A = Message E} (Ships x) (Acks a) → ⊥
+not_ack x a e = absurd (cc)
 
 pub suc_is : (m n : ℕ) → suc m ≡ suc n → m ≡ n
 suc_is m n e = omega arith
@@ -31,9 +44,6 @@ in_item xs (suc i) x h = (i, h)
 pub nth_more : {A : Type 0} (xs : List A) (p : ℕ) (f : A) → slice_get xs p ≡ Some f → (suc p ≤ length xs) × (take (suc p) xs ≡ take p xs ++ f ∷ [])
 nth_more [] p f h = absurd (cc)
 nth_more (x ∷ xs) zero f h = (omega arith, ap (λ z. z ∷ []) (some_is x f h))
-  where
-    some_is : {A : Type 0} (x y : A) → ◌≡◌ {A = Option A} (Some x) (Some y) → x ≡ y
-    some_is x y h = cc
 nth_more (x ∷ xs) (suc p) f h = let r = nth_more xs p f h in (omega arith, ap (λ z. x ∷ z) r.1)
 
 -- membership

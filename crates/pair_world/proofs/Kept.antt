@@ -14,12 +14,13 @@ use Rattle.pair_world.specs.Step.{Event, Write, Ship, Deliver, Drop, Book, Take,
 use Rattle.pair_world.proofs.Parts.{IsParts, IsKept}
 use Rattle.pair_world.proofs.Items.{on_item}
 use Rattle.pair_world.proofs.Worlds.{write_as, moved_as, down_sound, learn_sound, take_sound, alone_sound, pair_sound, stop_sound, start_sound, recover_sound, both_begin, after_step}
-use Rattle.pair_world.proofs.Doubts.{at_choice, own_is, to_own, up_is, sure_put, sure_failed, no_duty, not_up, some_duty, recover_down, recover_new, longest, no_longer, picked_change, picked_failed, at_picked, learned_is, down_is, same_step}
+use Rattle.pair_world.proofs.Doubts.{at_choice, own_is, to_own, up_is, sure_put, sure_failed, not_up, recover_down, recover_new, longest, no_longer, picked_change, picked_failed, at_picked, learned_is, down_is, same_step}
+use Rattle.pair_world.proofs.Items.{some_is, none_some}
 
 module _ {E : Type 0} (due : List E → E → Type 0) (w : World E) (s : IsKept due w) where
   -- there is no failed duty while the register is up
   pub none_failed : w.register_up ≡ true → (d : Duty) → w.failed_duty ≡ Some d → ⊥
-  none_failed reg d e = no_duty d (sym (s.one_duty reg) ∙ e)
+  none_failed reg d e = none_some d (sym (s.one_duty reg) ∙ e)
 
   certain : w.register_up ≡ true → (u : Resolved E) → ((n : NodeName) → is_up u n → failed_write_at w.failed_writes n ≡ None) → ((c : Choice) → IsParts due (at_choice due w s c u)) → IsKept due (record w { base = u })
   certain reg u sure plain =
@@ -120,8 +121,8 @@ module _ {E : Type 0} (due : List E → E → Type 0) (w : World E) (s : IsKept 
         one_journal = s.one_journal;
         one_duty = λ e. absurd (not_up e);
         unrecovered_parts = s.unrecovered_parts;
-        recovered_parts = λ c d' e. subst (λ z. IsParts due (recovered (with_duty (unrecovered c w) z))) (some_duty d d' e) (after c);
-        sure_taker = λ d' e. subst (λ (z : Duty). failed_write_at w.failed_writes z.holder ≡ None) (some_duty d d' e) sure;
+        recovered_parts = λ c d' e. subst (λ z. IsParts due (recovered (with_duty (unrecovered c w) z))) (some_is d d' e) (after c);
+        sure_taker = λ d' e. subst (λ (z : Duty). failed_write_at w.failed_writes z.holder ≡ None) (some_is d d' e) sure;
       }
 
   -- the duty that a failed take wrote, once recovered, is the take
@@ -194,8 +195,8 @@ module _ {E : Type 0} (due : List E → E → Type 0) (w : World E) (s : IsKept 
         one_journal = sure;
         one_duty = λ e. refl;
         unrecovered_parts = plain;
-        recovered_parts = λ c d e. absurd (no_duty d e);
-        sure_taker = λ d e. absurd (no_duty d e);
+        recovered_parts = λ c d e. absurd (none_some d e);
+        sure_taker = λ d e. absurd (none_some d e);
       }
 
   pub register_started_kept : (b : Bool) → IsKept due (register_started w b)

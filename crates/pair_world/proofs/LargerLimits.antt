@@ -1,8 +1,8 @@
 -- A step within smaller limits is one within larger limits.
-use Rattle.std.proofs.Common.{◌≡◌, ℕ, ◌<◌, ◌≤◌, ◌⊎◌, inl, inr, List, length, refl, arith}
+use Rattle.std.proofs.Common.{◌≤◌, inl, inr, List, arith}
 use Rattle.ali_base.specs.declared.names.NodeName.{NodeName}
-use Rattle.pair_world.specs.World.{node_at, Resolved, World}
-use Rattle.pair_world.specs.Step.{Event, Write, Ship, Deliver, Drop, Book, Take, Go_alone, Pair_up, Stop, Start, Start_duty, Ask, Outcome, Done, Answered, Refused, Faulted, Halted, Bounds, CanWrite, CanLeavePair, CanPair, ResolvedStep, WorldStep, Fails, Step}
+use Rattle.pair_world.specs.World.{Resolved, World}
+use Rattle.pair_world.specs.Step.{Event, Write, Ship, Deliver, Drop, Book, Take, Go_alone, Pair_up, Stop, Start, Start_duty, Ask, Outcome, Done, Answered, Refused, Faulted, Halted, Bounds, CanWrite, CanLeavePair, CanPair, WorldStep, Fails, Step}
 
 module _ {E : Type 0} (due : List E → E → Type 0) (small large : Bounds) (frames : small.frames ≤ large.frames) (epochs : small.last_epoch ≤ large.last_epoch) where
   write_larger : (w : Resolved E) (e : E) → CanWrite due small w e → CanWrite due large w e

@@ -15,9 +15,11 @@ use Rattle.pair_world.specs.Changes.{with_ack}
 use Rattle.pair_world.specs.Changes.{journal_written, written, shipment, shipped, ack_delivered, delivered, booked_next, new_duty, duty_changed, node_down, stopped, started, register_started, epoch_heard, read_failed, write_failed, register_failed}
 use Rattle.pair_world.specs.Step.{Event, Write, Ship, Deliver, Drop, Book, Take, Go_alone, Pair_up, Stop, Start, Start_duty, Ask, Outcome, Done, Answered, Refused, Faulted, Halted, Bounds, ResolvedStep, WorldStep, OnShipment, HearsEpoch, FailsToStore, Fails, Halts, Step, Turn, Runs}
 use Rattle.pair_world.specs.Limits.{IsEpoch, IsJournal, IsShipment, IsAck, IsWithin}
-use Rattle.pair_world.proofs.Items.{by_test, nth_more, on_item, in_item, In-append, In-without, slice_get-take, slice_push}
+use Rattle.pair_world.proofs.Items.{nth_more, on_item, in_item, In-append, In-without, slice_get-take, slice_push}
 use Rattle.pair_world.proofs.Lists.{epoch_is}
 use Rattle.pair_world.proofs.StepKinds.{world_step, answer_same, hears}
+use Rattle.std.proofs.lemmas.Bool.{cond_both}
+use Rattle.pair_world.proofs.Items.{some_is, none_some, not_there, ship_is, ack_is, not_ack}
 
 pub record Within {E : Type 0} (bounds : Bounds) (w : World E) : Type 0 where
   pub firsts : (n : NodeName) → IsJournal bounds (node_at w.base.nodes n).journal
@@ -26,12 +28,6 @@ pub record Within {E : Type 0} (bounds : Bounds) (w : World E) : Type 0 where
   pub failed : (d : Duty) → w.failed_duty ≡ Some d → IsEpoch bounds d.epoch
   pub ships : (x : Shipment E) → In w.base.messages (Ships x) → IsShipment bounds x
   pub acks : (a : Ack) → In w.base.messages (Acks a) → IsAck bounds a
-
-some_list : {A : Type 0} (x y : A) → ◌≡◌ {A = Option A} (Some x) (Some y) → x ≡ y
-some_list x y h = cc
-
-none_some : {A : Type 0} (x : A) → ◌≡◌ {A = Option A} None (Some x) → ⊥
-none_some x h = absurd (cc)
 
 module _ {E : Type 0} (bounds : Bounds) (w : World E) where
   pub within_from : IsWithin bounds w → Within bounds w
@@ -89,16 +85,13 @@ module _ {E : Type 0} (bounds : Bounds) where
       }
 
   none_len : IsJournal {E = E} bounds []
-  none_len = record { room = omega arith; epochs = λ k f is. absurd (no_frame k f is) }
-    where
-      no_frame : (k : ℕ) (f : Frame E) → slice_get {X = Frame E} [] k ≡ Some f → ⊥
-      no_frame k f is = absurd (cc)
+  none_len = record { room = omega arith; epochs = λ k f is. absurd (not_there f k is) }
 
 -- a delivery leaves a journal within the limit
 answer_len : {E : Type 0} (bounds : Bounds) (journal : List (Frame E)) (x : Shipment E) → IsJournal bounds journal → IsShipment bounds x → IsJournal bounds (journal_after journal (answer journal (told_by x)))
 unfolding answer
 answer_len {E} bounds journal x h told =
-    by_test P (nat_lt (length journal) x.preceding) Behind (answer_in journal (told_by x) x.frame)
+    cond_both (nat_lt (length journal) x.preceding) Behind (answer_in journal (told_by x) x.frame) P
     (λ behind. h)
     (λ not_behind. by_frame x.frame refl not_behind)
   where
@@ -107,18 +100,18 @@ answer_len {E} bounds journal x h told =
 
     by_frame : (o : Option (Frame E)) → x.frame ≡ o → nat_lt (length journal) x.preceding ≡ false → IsJournal bounds (journal_after journal (answer_in journal (told_by x) o))
     by_frame (Some f) is not_behind =
-        by_test (λ (a : Answer E). IsJournal bounds (journal_after journal a)) (nat_lt x.preceding (length journal)) _ _
-        (λ long. by_test (λ (a : Answer E). IsJournal bounds (journal_after journal a)) (epoch_at journal (suc x.preceding) == f.epoch) _ _ (λ same. h) (λ apart. take_len bounds x.preceding journal h))
-        (λ short. by_test (λ (a : Answer E). IsJournal bounds (journal_after journal a)) (differs_before journal (told_by x)) _ _
+        cond_both (nat_lt x.preceding (length journal)) _ _ (λ (a : Answer E). IsJournal bounds (journal_after journal a))
+        (λ long. cond_both (epoch_at journal (suc x.preceding) == f.epoch) _ _ (λ (a : Answer E). IsJournal bounds (journal_after journal a)) (λ same. h) (λ apart. take_len bounds x.preceding journal h))
+        (λ short. cond_both (differs_before journal (told_by x)) _ _ (λ (a : Answer E). IsJournal bounds (journal_after journal a))
         (λ differs. take_len bounds (x.preceding - 1) journal h)
         (λ same.
         let less = told.room f is in
         let len : length journal ≤ x.preceding = grind (arith, nat_tests) in
         push_len bounds journal f (omega arith) (told.frame f is) h))
     by_frame None is not_behind =
-        by_test (λ (a : Answer E). IsJournal bounds (journal_after journal a)) (differs_before journal (told_by x)) _ _
+        cond_both (differs_before journal (told_by x)) _ _ (λ (a : Answer E). IsJournal bounds (journal_after journal a))
         (λ differs. take_len bounds (x.preceding - 1) journal h)
-        (λ same. by_test (λ (a : Answer E). IsJournal bounds (journal_after journal a)) (old_next journal (told_by x)) _ _ (λ old. take_len bounds x.preceding journal h) (λ young. h))
+        (λ same. cond_both (old_next journal (told_by x)) _ _ (λ (a : Answer E). IsJournal bounds (journal_after journal a)) (λ old. take_len bounds x.preceding journal h) (λ young. h))
 
 module _ {E : Type 0} (due : List E → E → Type 0) (bounds : Bounds) (w : World E) (h : Within bounds w) where
   -- a world with this base and otherwise the same
@@ -146,23 +139,11 @@ module _ {E : Type 0} (due : List E → E → Type 0) (bounds : Bounds) (w : Wor
           let f = get_some (holder_journal w.base) p (omega arith) in
           subst (IsEpoch bounds) (sym (epoch_is (holder_journal w.base) p f.0 f.1)) ((h.firsts w.base.duty.holder).epochs p f.0 f.1)
 
-  ship_is : (x y : Shipment E) → ◌≡◌ {A = Message E} (Ships x) (Ships y) → x ≡ y
-  ship_is x y e = cc
-
-  ack_is_none : (a : Ack) (x : Shipment E) → ◌≡◌ {A = Message E} (Acks a) (Ships x) → ⊥
-  ack_is_none a x e = absurd (cc)
-
-  ship_is_none : (x : Shipment E) (a : Ack) → ◌≡◌ {A = Message E} (Ships x) (Acks a) → ⊥
-  ship_is_none x a e = absurd (cc)
-
-  ack_is : (a c : Ack) → ◌≡◌ {A = Message E} (Acks a) (Acks c) → a ≡ c
-  ack_is a c e = cc
-
   with_ack_ships : (y : Shipment E) (o : Option Bool) (x : Shipment E) → In (with_ack y o w.base.messages) (Ships x) → IsShipment bounds x
   with_ack_ships y None x i = h.ships x i
   with_ack_ships y (Some end) x i = elim (In-append w.base.messages (Acks (record { to = y.sender; epoch = y.epoch; preceding = y.preceding; end = end })) (Ships x) i) [
     | inl old ↦ h.ships x old
-    | inr e ↦ absurd (ack_is_none (record { to = y.sender; epoch = y.epoch; preceding = y.preceding; end = end }) x e)
+    | inr e ↦ absurd (not_ack x (record { to = y.sender; epoch = y.epoch; preceding = y.preceding; end = end }) (sym e))
   ]
 
   with_ack_acks : (y : Shipment E) → IsShipment bounds y → (o : Option Bool) (a : Ack) → In (with_ack y o w.base.messages) (Acks a) → IsAck bounds a
@@ -206,7 +187,7 @@ module _ {E : Type 0} (due : List E → E → Type 0) (bounds : Bounds) (w : Wor
       ])
       (λ a i. elim (In-append w.base.messages (Ships (shipment w.base k)) (Acks a) i) [
         | inl old ↦ h.acks a old
-        | inr e ↦ absurd (ship_is_none (shipment w.base k) a e)
+        | inr e ↦ absurd (not_ack (shipment w.base k) a e)
       ]))
   does_within (Deliver i) u g =
       let m = on_item (item_at w.base.messages i) _ g in
@@ -279,7 +260,7 @@ module _ {E : Type 0} (due : List E → E → Type 0) (bounds : Bounds) (w : Wor
   write_failed_within n j low =
       record {
         firsts = put_same n false (node_at w.base.nodes n).known;
-        seconds = put_failed_write_len bounds w.failed_writes n (Some j) (λ k e. subst (IsJournal bounds) (some_list j k e) low) h.seconds;
+        seconds = put_failed_write_len bounds w.failed_writes n (Some j) (λ k e. subst (IsJournal bounds) (some_is j k e) low) h.seconds;
         epoch = h.epoch;
         failed = h.failed;
         ships = h.ships;
@@ -292,7 +273,7 @@ module _ {E : Type 0} (due : List E → E → Type 0) (bounds : Bounds) (w : Wor
         firsts = h.firsts;
         seconds = h.seconds;
         epoch = h.epoch;
-        failed = λ f e. subst (λ (z : Duty). IsEpoch bounds z.epoch) (some_list d f e) low;
+        failed = λ f e. subst (λ (z : Duty). IsEpoch bounds z.epoch) (some_is d f e) low;
         ships = h.ships;
         acks = h.acks;
       }
@@ -324,9 +305,6 @@ module _ {E : Type 0} (due : List E → E → Type 0) (bounds : Bounds) (w : Wor
   fails_within (Drop i) v g = absurd g
   fails_within (Stop n) v g = absurd g
 
-no_message : {A : Type 0} (x : A) (i : ℕ) → slice_get {X = A} [] i ≡ Some x → ⊥
-no_message x i h = absurd (cc)
-
 module _ {E : Type 0} (bounds : Bounds) where
   pub opened_within : (d : Duty) (ds : List Duty) (ja jb : List (Frame E)) → IsEpoch bounds d.epoch → IsJournal bounds ja → IsJournal bounds jb → Within bounds (without_doubt (opened d ds ja jb))
   opened_within d ds ja jb e a b =
@@ -335,8 +313,8 @@ module _ {E : Type 0} (bounds : Bounds) where
         seconds = λ n j is. absurd (second n j is);
         epoch = e;
         failed = λ d is. absurd (none_some d is);
-        ships = λ x i. absurd (no_message (Ships x) i.0 i.1);
-        acks = λ a i. absurd (no_message (Acks a) i.0 i.1);
+        ships = λ x i. absurd (not_there (Ships x) i.0 i.1);
+        acks = λ a i. absurd (not_there (Acks a) i.0 i.1);
       }
     where
       first : (n : NodeName) → IsJournal bounds (node_at (opened d ds ja jb).nodes n).journal

@@ -1,19 +1,17 @@
 -- A run that begins at a moment of an event begins after a halt of it.
-use Rattle.std.proofs.Common.{◌≡◌, ◌⊎◌, inl, inr, Bool, true, false, List, [], ◌∷◌, ◌++◌, refl, ap, sym, ◌∙◌, subst, Option, Some, None}
+use Rattle.std.proofs.Common.{◌≡◌, ◌⊎◌, inl, inr, true, List, [], ◌∷◌, ◌++◌, refl, sym, ◌∙◌, subst, Option, Some, None}
 use Rattle.ali_base.specs.declared.names.NodeName.{NodeName}
 use Rattle.ali_base.specs.declared.names.NodeName.TheVariants.{A, B}
 use Rattle.ali_base.specs.declared.duty.Duty.{Duty}
-use Rattle.pair_world.specs.Frames.{Frame, Begins, OnItem, item_at}
-use Rattle.pair_world.specs.World.{Message, Ships, Acks, NodeState, node_at, is_up, FailedWrites, failed_write_at, put_failed_write, World, MayHold, MayRead, opened, without_doubt}
+use Rattle.pair_world.specs.Frames.{Frame, OnItem, item_at}
+use Rattle.pair_world.specs.World.{Message, Ships, Acks, is_up, FailedWrites, failed_write_at, put_failed_write, World, MayHold, MayRead}
 use Rattle.pair_world.specs.Changes.{read_failed, write_failed, register_failed}
 use Rattle.pair_world.specs.Step.{Event, Write, Ship, Deliver, Drop, Book, Take, Go_alone, Pair_up, Stop, Start, Start_duty, Ask, Halted, Bounds, OnShipment, FailsToStore, Fails, Halts, Turn, Runs}
 use Rattle.pair_world.specs.SoundWorld.{IsSound}
 use Rattle.pair_world.specs.Moments.{IsUnderWay, IsMoment, IsMomentIn}
-use Rattle.pair_world.proofs.Doubts.{down_journal, no_duty}
+use Rattle.pair_world.proofs.Doubts.{down_journal}
 use Rattle.pair_world.proofs.SoundSteps.{schedule_is_sound}
-
-none_some : {A : Type 0} (x : A) → ◌≡◌ {A = Option A} None (Some x) → ⊥
-none_some x e = absurd (cc)
+use Rattle.pair_world.proofs.Items.{none_some}
 
 -- each list that the one world gives a disk is one that the other gives it
 pub record Wider {E : Type 0} (u v : World E) : Type 0 where
@@ -60,7 +58,7 @@ module _ {E : Type 0} (due : List E → E → Type 0) (w : World E) (s : IsSound
   register_wide : (d : Duty) → w.register_up ≡ true → Wider w (register_failed w d)
   register_wide d reg = record {
     disks = λ n j h. h;
-    register = λ e ds h. elim h [ inl is ↦ inl is | inr is ↦ absurd (no_duty e (sym (s.one_duty reg) ∙ is.0)) ];
+    register = λ e ds h. elim h [ inl is ↦ inl is | inr is ↦ absurd (none_some e (sym (s.one_duty reg) ∙ is.0)) ];
   }
 
   same_wide : (u v : World E) → u ≡ v → Wider w v → Wider w u
@@ -142,17 +140,20 @@ module _ {E Q : Type 0} (due : List E → E → Type 0) (bounds : Bounds) (w : W
   pub moment_halts : (e : Event E Q) (v : World E) → IsMoment due bounds w e v → Halts due bounds w e v
   moment_halts e v m =
       let disks = join e m.disk_a.0 m.disk_b.0 m.disk_a.1 m.disk_b.1 in
-      let all = join e disks.0 m.register.0 disks.1 m.register.1 in
-      (all.0, all.1, record {
-        duty = m.duty;
-        past = m.past;
-        journal_a = m.journal_a;
-        journal_b = m.journal_b;
-        register = all.3.register m.duty m.past m.register.2;
-        disk_a = all.2.disks A m.journal_a (disks.2.disks A m.journal_a m.disk_a.2);
-        disk_b = all.2.disks B m.journal_b (disks.3.disks B m.journal_b m.disk_b.2);
-        opens = m.opens;
-      })
+      let all = join e disks.0 m.register.0 disks.1 m.register.1 in (
+        all.0,
+        all.1,
+        record {
+          duty = m.duty;
+          past = m.past;
+          journal_a = m.journal_a;
+          journal_b = m.journal_b;
+          register = all.3.register m.duty m.past m.register.2;
+          disk_a = all.2.disks A m.journal_a (disks.2.disks A m.journal_a m.disk_a.2);
+          disk_b = all.2.disks B m.journal_b (disks.3.disks B m.journal_b m.disk_b.2);
+          opens = m.opens;
+        },
+      )
 
 module _ {E Q R : Type 0} (due : List E → E → Type 0) (form : List E → Q → R) (bounds : Bounds) where
   -- one schedule after another

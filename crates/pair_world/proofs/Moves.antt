@@ -13,13 +13,11 @@ use Rattle.pair_world.proofs.Parts.{Follows, InStep, TimeParts, IsOfTerm, AreOfT
 use Rattle.pair_world.proofs.Items.{within_or_next, In-append, slice_get_within, Begins-get, slice_none, slice_push, slice_more, slice_end}
 use Rattle.pair_world.proofs.Lists.{epoch_is, epoch_at-append, push_epoch, Shares-more, Begins-length, Begins-trans, Begins-more, Begins-Agree, Rising-Begins, Rising-push, Legal-push}
 use Rattle.pair_world.proofs.Terms.{term_low}
+use Rattle.pair_world.proofs.Items.{ship_is, ack_is}
 
 says_itself : {E : Type 0} (xs : List (Frame E)) (x : Shipment E) → x.preceding ≤ length xs → (o : Option (Frame E)) → slice_get xs x.preceding ≡ o → Tells xs x o
 says_itself xs x fits (Some f) is = is
 says_itself xs x fits None is = (fits, λ k more within. absurd (omega (arith, slice_none xs x.preceding is)))
-
-ship_is : {E : Type 0} (a c : Shipment E) → ◌≡◌ {A = Message E} (Ships a) (Ships c) → a ≡ c
-ship_is a c e = cc
 
 module _ {E : Type 0} {due : List E → E → Type 0} {d : Duty} {ds : List Duty} {h xs ys : List (Frame E)} {known_by : NodeName → ℕ} {ms : List (Message E)} {reached ended : ℕ} (p : Parts due d ds h xs ys known_by ms reached ended) where
   -- a node learns of an epoch
@@ -127,9 +125,6 @@ module _ {E : Type 0} {due : List E → E → Type 0} {d : Duty} {ds : List Duty
         acks = λ c i. elim (In-append ms (Acks a) (Acks c) i) [ inl o ↦ p.acks.acks c o | inr e ↦ subst (λ z. z.epoch ≡ d.epoch → AckHolds z.end z.preceding xs ys) (ack_is a c e) fits ];
       })
     where
-      ack_is : (a c : Ack) → ◌≡◌ {A = Message E} (Acks a) (Acks c) → a ≡ c
-      ack_is a c e = cc
-
       old_ship : (x : Shipment E) → In (ms ++ Acks a ∷ []) (Ships x) → In ms (Ships x)
       old_ship x i = elim (In-append ms (Acks a) (Ships x) i) [ inl o ↦ o | inr e ↦ absurd (cc) ]
 

@@ -10,9 +10,9 @@ use Rattle.pair_world.proofs.Lists.{Shares-less, Begins-Shares}
 use Rattle.pair_world.proofs.Items.{nth_more}
 use Rattle.pair_world.proofs.Lists.{Legal-Begins}
 use Rattle.pair_world.proofs.Parts.{BookedParts, InStep, IsParts, IsKept}
-use Rattle.pair_world.proofs.Doubts.{no_duty}
 use Rattle.pair_world.proofs.Reopening.{resolved_sound}
 use Rattle.pair_world.specs.SoundWorld.{IsMirrored, HasUncommittedSuffix, Part, Booked, Mirrored, Following, Agreeing, In_time, Current, Acknowledged, Known, Floored, Holds, Invariant, IsSound}
+use Rattle.pair_world.proofs.Items.{none_some}
 
 -- each entry is due: those of the history, and the one past it
 whole_legal : {E : Type 0} (due : List E → E → Type 0) (h xs : List (Frame E)) → Begins xs h → length xs ≤ suc (length h) → Legal due h → ((f : Frame E) → slice_get xs (length h) ≡ Some f → due (entries h) f.entry) → Legal due xs
@@ -112,7 +112,7 @@ module _ {E : Type 0} (due : List E → E → Type 0) (w : Resolved E) where
 
 module _ {E : Type 0} (due : List E → E → Type 0) (w : World E) where
   register_is : (s : IsSound due w) (c : Choice) (d : Duty) → w.failed_duty ≡ Some d → (r : Bool) → w.register_up ≡ r → Invariant due (recovered (with_duty (unrecovered c w) d))
-  register_is s c d e true up = absurd (no_duty d (sym (s.one_duty up) ∙ e))
+  register_is s c d e true up = absurd (none_some d (sym (s.one_duty up) ∙ e))
   register_is s c d e false is_down =
       let c' : Choice = record { a = c.a; b = c.b; duty = true } in
       let told : Invariant due (cond w.register_up (unrecovered c w) (recovered (with_failed_duty w.failed_duty true (unrecovered c w)))) = s.parts c' in

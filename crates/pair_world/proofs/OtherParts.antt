@@ -1,5 +1,5 @@
 -- The worlds that lack one part have the others.
-use Rattle.std.proofs.Common.{◌≡◌, ℕ, zero, suc, ◌<◌, ◌≤◌, ◌⊎◌, inl, inr, false, List, [], ◌∷◌, length, refl, ap, sym, ◌∙◌, subst, arith, Option, Some}
+use Rattle.std.proofs.Common.{◌≡◌, ℕ, zero, suc, ◌<◌, ◌≤◌, ◌⊎◌, inl, inr, false, List, [], ◌∷◌, length, refl, ap, sym, ◌∙◌, subst, arith, Some}
 use Rattle.std.specs.Prelude.{slice_get}
 use Rattle.ali_base.specs.declared.names.NodeName.{NodeName}
 use Rattle.ali_base.specs.declared.names.NodeName.TheVariants.{A, B}
@@ -11,9 +11,7 @@ use Rattle.pair_world.specs.SoundWorld.{IsBooked, IsMirrored, HasUncommittedSuff
 use Rattle.pair_world.specs.WorkedSchedules.{framed}
 use Rattle.pair_world.specs.NeededParts.{HasOthers, one_written, not_due, not_mirrored, young_suffix, early_ack, not_current, not_stored, high_floor}
 use Rattle.pair_world.proofs.Lists.{Shares-none, Shares-less, Begins-refl, Begins-Agree, Agree-sym}
-
-not_here : {X : Type 0} (x : X) (k : ℕ) → slice_get {X = X} [] k ≡ Some x → ⊥
-not_here x k is = absurd (cc)
+use Rattle.pair_world.proofs.Items.{some_is, not_there, ship_is, ack_is, not_ack}
 
 no_mode : {X : Type 0} → Both ≡ Alone → X
 no_mode is = absurd (cc)
@@ -61,33 +59,21 @@ module _ {E : Type 0} where
   agree_self xs = Begins-Agree (Begins-refl xs)
 
   past_one : (f g : Frame E) (k : ℕ) → slice_get (f ∷ []) (suc k) ≡ Some g → ⊥
-  past_one f g k is = not_here g k is
+  past_one f g k is = not_there g k is
 
   only : (m n : Message E) → In (m ∷ []) n → m ≡ n
   only m n i = by_place i.0 i.1
     where
       by_place : (k : ℕ) → slice_get (m ∷ []) k ≡ Some n → m ≡ n
       by_place zero is = cc
-      by_place (suc k) is = absurd (not_here n k is)
+      by_place (suc k) is = absurd (not_there n k is)
 
   no_message : (n : Message E) → In [] n → ⊥
-  no_message n i = not_here n i.0 i.1
-
-  not_ack : (x : Shipment E) (a : Ack) → ◌≡◌ {A = Message E} (Ships x) (Acks a) → ⊥
-  not_ack x a is = absurd (cc)
-
-  same_shipment : (x y : Shipment E) → ◌≡◌ {A = Message E} (Ships x) (Ships y) → x ≡ y
-  same_shipment x y is = cc
-
-  same_ack : (a c : Ack) → ◌≡◌ {A = Message E} (Acks a) (Acks c) → a ≡ c
-  same_ack a c is = cc
-
-  same_frame : (f g : Frame E) → ◌≡◌ {A = Option (Frame E)} (Some f) (Some g) → f ≡ g
-  same_frame f g is = cc
+  no_message n i = not_there n i.0 i.1
 
   -- all that is named stands in one list
   names_in : (all holders others : List (Frame E)) (messages : List (Message E)) → ((k : ℕ) (f : Frame E) → Named holders others messages k f → slice_get all k ≡ Some f) → NamesOne holders others messages
-  names_in all holders others messages told k f g nf ng same = same_frame f g (sym (told k f nf) ∙ told k g ng)
+  names_in all holders others messages told k f g nf ng same = some_is f g (sym (told k f nf) ∙ told k g ng)
 
   no_shipment : (messages : List (Message E)) → ((x : Shipment E) → In messages (Ships x) → ⊥) → (holders others all : List (Frame E)) → ((k : ℕ) (f : Frame E) → slice_get holders k ≡ Some f → slice_get all k ≡ Some f) → ((k : ℕ) (f : Frame E) → slice_get others k ≡ Some f → slice_get all k ≡ Some f) → NamesOne holders others messages
   no_shipment messages none holders others all h o = names_in all holders others messages (λ k f named. by_name k f named)
@@ -106,11 +92,11 @@ module _ {E : Type 0} where
   fresh_one f (suc (suc k)) far within = absurd (omega arith)
 
   one_legal : (due : List E → E → Type 0) (f : Frame E) → due [] f.entry → Legal due (f ∷ [])
-  one_legal due f next zero g is = subst (λ (z : Frame E). due [] z.entry) (same_frame f g is) next
+  one_legal due f next zero g is = subst (λ (z : Frame E). due [] z.entry) (some_is f g is) next
   one_legal due f next (suc k) g is = absurd (past_one f g k is)
 
   first_due : (due : List E → E → Type 0) (f : Frame E) → due [] f.entry → (g : Frame E) → slice_get (f ∷ []) 0 ≡ Some g → due [] g.entry
-  first_due due f next g is = subst (λ (z : Frame E). due [] z.entry) (same_frame f g is) next
+  first_due due f next g is = subst (λ (z : Frame E). due [] z.entry) (some_is f g is) next
 
   known_top : (a b top : ℕ) (w : Resolved E) → known w A ≡ a → known w B ≡ b → a ≤ top → b ≤ top → (n : NodeName) → known w n ≤ top
   known_top a b top w is_a is_b low_a low_b A = omega arith
@@ -144,19 +130,19 @@ module _ {E : Type 0} (due : List E → E → Type 0) where
   one_written_in_time w f none top mine others =
       in_time_without w none (subst (Rising w.duty.epoch) (sym mine) (rising_one w.duty.epoch f top)) (subst (Rising w.duty.epoch) (sym others) (rising_none w.duty.epoch))
       (no_shipment w.messages (λ x i. no_message (Ships x) (subst (λ ms. In ms (Ships x)) none i)) (holder_journal w) (other_journal w) (f ∷ [])
-      (λ k g is. ap (λ z. slice_get z k) (sym mine) ∙ is) (λ k g is. absurd (not_here g k (ap (λ z. slice_get z k) (sym others) ∙ is))))
+      (λ k g is. ap (λ z. slice_get z k) (sym mine) ∙ is) (λ k g is. absurd (not_there g k (ap (λ z. slice_get z k) (sym others) ∙ is))))
 
   one_stored_in_time : (w : Resolved E) (f : Frame E) → w.messages ≡ [] → f.epoch ≤ w.duty.epoch → holder_journal w ≡ [] → other_journal w ≡ f ∷ [] → IsInTime w
   one_stored_in_time w f none top mine others =
       in_time_without w none (subst (Rising w.duty.epoch) (sym mine) (rising_none w.duty.epoch)) (subst (Rising w.duty.epoch) (sym others) (rising_one w.duty.epoch f top))
       (no_shipment w.messages (λ x i. no_message (Ships x) (subst (λ ms. In ms (Ships x)) none i)) (holder_journal w) (other_journal w) (f ∷ [])
-      (λ k g is. absurd (not_here g k (ap (λ z. slice_get z k) (sym mine) ∙ is))) (λ k g is. ap (λ z. slice_get z k) (sym others) ∙ is))
+      (λ k g is. absurd (not_there g k (ap (λ z. slice_get z k) (sym mine) ∙ is))) (λ k g is. ap (λ z. slice_get z k) (sym others) ∙ is))
 
   -- a holder with one frame, and nothing booked
   one_pending : (w : Resolved E) (f : Frame E) → holder_journal w ≡ f ∷ [] → w.booked ≡ [] → due [] f.entry → IsBooked due w
   one_pending w f mine none d =
       record {
-        legal = λ k g is. absurd (not_here g k (ap (λ z. slice_get z k) (sym none) ∙ is));
+        legal = λ k g is. absurd (not_there g k (ap (λ z. slice_get z k) (sym none) ∙ is));
         begins = subst (Begins (holder_journal w)) (sym none) (begins_none (holder_journal w));
         one_more = (let m = ap length mine in let n = ap length none in omega arith);
         pending_due = λ g is. subst (λ h. due (entries h) g.entry) (sym none)
@@ -223,10 +209,10 @@ module _ {E : Type 0} (due : List E → E → Type 0) where
   nothing_booked : (w : Resolved E) → holder_journal w ≡ [] → w.booked ≡ [] → IsBooked due w
   nothing_booked w mine none =
       record {
-        legal = λ k g is. absurd (not_here g k (ap (λ z. slice_get z k) (sym none) ∙ is));
+        legal = λ k g is. absurd (not_there g k (ap (λ z. slice_get z k) (sym none) ∙ is));
         begins = subst (Begins (holder_journal w)) (sym none) (begins_none (holder_journal w));
         one_more = (let m = ap length mine in omega arith);
-        pending_due = λ g is. absurd (not_here g (length w.booked) (ap (λ z. slice_get z (length w.booked)) (sym mine) ∙ is));
+        pending_due = λ g is. absurd (not_there g (length w.booked) (ap (λ z. slice_get z (length w.booked)) (sym mine) ∙ is));
       }
 
   pub young_suffix_others : (e : E) → HasOthers due Following (young_suffix e).base
@@ -258,7 +244,7 @@ module _ {E : Type 0} (due : List E → E → Type 0) where
       by_part In_time n = absurd (n refl)
       by_part Current n = λ x i later. absurd (not_ack x early (sym (only (Acks early) (Ships x) i)))
       by_part Acknowledged n = record {
-        acks = λ a i now. absurd (let is = ap (λ (z : Ack). z.epoch) (same_ack early a (only (Acks early) (Acks a) i)) in omega arith);
+        acks = λ a i now. absurd (let is = ap (λ (z : Ack). z.epoch) (ack_is early a (only (Acks early) (Acks a) i)) in omega arith);
         acked = Shares-none [] [];
         ended = λ k is. subst (λ k. HasEnd {E = E} k [] []) (let h : 0 ≡ k = omega arith in h) end_none;
       }
@@ -283,10 +269,10 @@ module _ {E : Type 0} (due : List E → E → Type 0) where
       by_name : (k : ℕ) (f : Frame E) → Named (framed g 1 ∷ []) (framed g 1 ∷ []) (Ships (stray h) ∷ []) k f → slice_get (framed g 1 ∷ framed h 1 ∷ []) k ≡ Some f
       by_name k f (inl a) = first k f a
       by_name k f (inr (inl a)) = first k f a
-      by_name k f (inr (inr m)) = by_message m.0 k f (same_shipment (stray h) m.0 (only (Ships (stray h)) (Ships m.0) m.1)) m.2 m.3
+      by_name k f (inr (inr m)) = by_message m.0 k f (ship_is (stray h) m.0 (only (Ships (stray h)) (Ships m.0) m.1)) m.2 m.3
 
   is_stray : (h : E) (x : Shipment E) → In (Ships (stray h) ∷ []) (Ships x) → stray h ≡ x
-  is_stray h x i = same_shipment (stray h) x (only (Ships (stray h)) (Ships x) i)
+  is_stray h x i = ship_is (stray h) x (only (Ships (stray h)) (Ships x) i)
 
   no_ack : (h : E) (a : Ack) → In (Ships (stray h) ∷ []) (Acks a) → ⊥
   no_ack h a i = not_ack (stray h) a (only (Ships (stray h)) (Acks a) i)
@@ -304,7 +290,7 @@ module _ {E : Type 0} (due : List E → E → Type 0) where
     where
       by_frame : (x : Shipment E) (f : Frame E) → stray h ≡ x → x.frame ≡ Some f → f.epoch ≤ x.epoch
       by_frame x f is frame =
-          let told = ap (λ (z : Frame E). z.epoch) (same_frame (framed h 1) f (ap (λ (z : Shipment E). z.frame) is ∙ frame)) in
+          let told = ap (λ (z : Frame E). z.epoch) (some_is (framed h 1) f (ap (λ (z : Shipment E). z.frame) is ∙ frame)) in
           let now = ap (λ (z : Shipment E). z.epoch) is in
           omega arith
 

@@ -1,14 +1,13 @@
 -- A delivery is answered as the receiver alone answers it.
-use Rattle.std.proofs.Common.{◌≡◌, ℕ, suc, ◌<◌, ◌≤◌, inl, inr, Bool, true, false, cond, nat_lt, ◌==◌, ◌-◌, List, length, refl, ap, sym, ◌∙◌, subst, arith, Option, Some, None}
+use Rattle.std.proofs.Common.{◌≡◌, ℕ, suc, ◌<◌, ◌≤◌, inl, inr, true, false, cond, nat_lt, ◌==◌, ◌-◌, List, length, refl, ap, sym, ◌∙◌, subst, arith, Option, Some, None}
 use Rattle.std.proofs.lemmas.Bool.Decides.{nat_tests}
 use Rattle.pair_world.specs.Frames.{Frame, epoch_at, item_at, OnItem}
-use Rattle.pair_world.specs.World.{other, Shipment, Message, Ships, told_by, NodeState, node_at, put_node, Resolved, known, with_nodes, with_node, World}
-use Rattle.pair_world.specs.Deliveries.{NodeMessage, NodeReply, Told_stale, Told_behind, told_as, Answer, Behind, Cut, Stored, Have, Have_end, differs_before, old_next, answer_in, answer, journal_after, ack_end, reply_to, journal_left, known_left}
+use Rattle.pair_world.specs.World.{other, Shipment, Message, Ships, told_by, put_node, Resolved, known, with_node, World}
+use Rattle.pair_world.specs.Deliveries.{NodeMessage, Told_stale, Told_behind, told_as, Answer, Behind, Cut, Stored, Have, Have_end, differs_before, old_next, answer_in, answer, journal_after, ack_end, journal_left, known_left}
 use Rattle.pair_world.specs.Changes.{delivered, epoch_heard, journal_stored, with_ack}
 use Rattle.pair_world.specs.Replies.{receiver, said, state_left, receiver_changed, receiver_answered}
-use Rattle.pair_world.specs.Step.{Event, Deliver, Bounds, IsBehind, CanStore, CanDeliver, OnShipment, HearsEpoch, Refuses, WorldStep}
-use Rattle.pair_world.proofs.Items.{by_test}
-use Rattle.pair_world.proofs.StepKinds.{Hears, hears}
+use Rattle.pair_world.specs.Step.{Deliver, Bounds, IsBehind, CanStore, CanDeliver, OnShipment, HearsEpoch, Refuses, WorldStep}
+use Rattle.std.proofs.lemmas.Bool.{cond_both}
 
 module _ {E : Type 0} where
   -- no later epoch is known
@@ -35,12 +34,12 @@ module _ {E : Type 0} where
 
       below : (o : Option (Frame E)) → answer_in journal m o ≡ Behind → ⊥
       below (Some f) =
-          by_test (λ (a : Answer E). a ≡ Behind → ⊥) (nat_lt m.preceding (length journal)) _ _
-          (λ long. by_test (λ (a : Answer E). a ≡ Behind → ⊥) (epoch_at journal (suc m.preceding) == f.epoch) Have (Cut m.preceding) (λ t e. absurd (cc)) (λ t e. absurd (cc)))
-          (λ here. by_test (λ (a : Answer E). a ≡ Behind → ⊥) (differs_before journal m) (Cut (m.preceding - 1)) (Stored f) (λ t e. absurd (cc)) (λ t e. absurd (cc)))
+          cond_both (nat_lt m.preceding (length journal)) _ _ (λ (a : Answer E). a ≡ Behind → ⊥)
+          (λ long. cond_both (epoch_at journal (suc m.preceding) == f.epoch) Have (Cut m.preceding) (λ (a : Answer E). a ≡ Behind → ⊥) (λ t e. absurd (cc)) (λ t e. absurd (cc)))
+          (λ here. cond_both (differs_before journal m) (Cut (m.preceding - 1)) (Stored f) (λ (a : Answer E). a ≡ Behind → ⊥) (λ t e. absurd (cc)) (λ t e. absurd (cc)))
       below None =
-          by_test (λ (a : Answer E). a ≡ Behind → ⊥) (differs_before journal m) _ _ (λ t e. absurd (cc))
-          (λ same. by_test (λ (a : Answer E). a ≡ Behind → ⊥) (old_next journal m) (Cut m.preceding) Have_end (λ t e. absurd (cc)) (λ t e. absurd (cc)))
+          cond_both (differs_before journal m) _ _ (λ (a : Answer E). a ≡ Behind → ⊥) (λ t e. absurd (cc))
+          (λ same. cond_both (old_next journal m) (Cut m.preceding) Have_end (λ (a : Answer E). a ≡ Behind → ⊥) (λ t e. absurd (cc)) (λ t e. absurd (cc)))
 
 module _ {E : Type 0} (w : World E) (i : ℕ) (x : Shipment E) (at : item_at w.base.messages i ≡ Some (Ships x)) where
   -- a stale shipment raises no epoch

@@ -10,9 +10,10 @@ use Rattle.pair_world.specs.Changes.{register_started}
 use Rattle.pair_world.proofs.Parts.{IsParts, IsKept}
 use Rattle.pair_world.proofs.Lists.{Begins-refl, Begins-trans}
 use Rattle.pair_world.proofs.Worlds.{both_begin, recover_sound, halt_sound, recovered_booked, open_begins}
-use Rattle.pair_world.proofs.Doubts.{same_journal, no_duty, some_duty}
+use Rattle.pair_world.proofs.Doubts.{same_journal}
 use Rattle.pair_world.proofs.Recovery.{recovery_longer}
 use Rattle.pair_world.proofs.Kept.{none_failed}
+use Rattle.pair_world.proofs.Items.{some_is, none_some}
 
 abbrev SameJournals : {E : Type 0} → Resolved E → Resolved E → Type 0
 SameJournals x y = (y.nodes.a.journal ≡ x.nodes.a.journal) × (y.nodes.b.journal ≡ x.nodes.b.journal)
@@ -85,8 +86,8 @@ module _ {E : Type 0} (due : List E → E → Type 0) (w : World E) (s : IsKept 
   duties_read d ds (inr is) = (true, λ c e. by_register c e w.register_up refl)
     where
       by_duty : (c : Choice) (o : Option Duty) → o ≡ Some d → (b : Bool) → b ≡ true → ((with_failed_duty o b (unrecovered c w)).duty ≡ d) × ((with_failed_duty o b (unrecovered c w)).past ≡ ds)
-      by_duty c None e b t = absurd (no_duty d e)
-      by_duty c (Some f) e true t = (some_duty f d e, is.1)
+      by_duty c None e b t = absurd (none_some d e)
+      by_duty c (Some f) e true t = (some_is f d e, is.1)
       by_duty c (Some f) e false t = absurd (cc)
 
       by_register : (c : Choice) → c.duty ≡ true → (r : Bool) → w.register_up ≡ r → ((cond r (unrecovered c w) (recovered (with_failed_duty w.failed_duty c.duty (unrecovered c w)))).duty ≡ d) × ((cond r (unrecovered c w) (recovered (with_failed_duty w.failed_duty c.duty (unrecovered c w)))).past ≡ ds)
@@ -154,7 +155,7 @@ module _ {E : Type 0} (due : List E → E → Type 0) (w : World E) (s : IsKept 
       by_duty (Some d) e true = subst (λ y. Begins (recovered (with_duty y d)).booked w.base.booked) (first_is first_choice refl refl) (recovery_longer due (unrecovered first_choice w) d (s.unrecovered_parts first_choice) (s.recovered_parts first_choice d e))
 
 pub without_doubt_kept : {E : Type 0} (due : List E → E → Type 0) (w : Resolved E) → IsParts due w → IsKept due (without_doubt w)
-without_doubt_kept {E} due w s = record { one_journal = λ n up. none n; one_duty = λ e. refl; unrecovered_parts = λ c. s; recovered_parts = λ c d e. absurd (no_duty d e); sure_taker = λ d e. absurd (no_duty d e) }
+without_doubt_kept {E} due w s = record { one_journal = λ n up. none n; one_duty = λ e. refl; unrecovered_parts = λ c. s; recovered_parts = λ c d e. absurd (none_some d e); sure_taker = λ d e. absurd (none_some d e) }
   where
     none : (n : NodeName) → failed_write_at {E = E} (record { a = None; b = None }) n ≡ None
     none A = refl

@@ -1,21 +1,17 @@
 -- A row of refusals is passed exactly where the event can be done.
-use Rattle.std.proofs.Common.{◌≡◌, ℕ, suc, ◌<◌, ◌≤◌, ◌⊎◌, inl, inr, Bool, true, false, not, ◌&&◌, ◌||◌, cond, nat_lt, nat_le, List, [], ◌∷◌, length, refl, ap, sym, ◌∙◌, subst, arith, Option, Some, None}
+use Rattle.std.proofs.Common.{◌≡◌, ℕ, ◌<◌, ◌≤◌, ◌⊎◌, inl, inr, Bool, true, false, not, ◌&&◌, nat_lt, nat_le, List, [], ◌∷◌, refl, ap, sym, ◌∙◌, arith, Option, Some, None}
 use Rattle.std.proofs.lemmas.Bool.Decides.{nat_tests}
 use Rattle.ali_base.specs.Steps.{when}
 use Rattle.ali_base.specs.declared.names.NodeName.{NodeName}
-use Rattle.ali_base.specs.declared.names.NodeName.TheVariants.{A, B}
 use Rattle.ali_base.specs.declared.duty.Mode.{Mode}
 use Rattle.ali_base.specs.declared.duty.Mode.TheVariants.{Both, Alone}
-use Rattle.pair_world.specs.Frames.{Frame, entries}
-use Rattle.pair_world.specs.World.{other, is_node, Shipment, Ack, Ships, Acks, node_at, holder_journal, known, is_up, World, MayHold}
-use Rattle.pair_world.specs.Step.{Bounds, CanWrite, CanShip, CanBook, CanLeavePair, CanPair, CanHear}
-use Rattle.pair_world.specs.Refusals.{Refusal, Not_due, Item, Test, Next, IsRefused, IsPassed, message_limit, is_alone, needed_length, short, ask_row, write_row, ship_row, message_row, book_row, take_row, pair_row, stop_row, start_row, start_duty_row}
-use Rattle.pair_world.proofs.Lists.{Begins-length}
+use Rattle.pair_world.specs.Frames.{Frame}
+use Rattle.pair_world.specs.World.{is_node}
+use Rattle.pair_world.specs.Refusals.{Refusal, Item, Test, Next, IsRefused, IsPassed, is_alone}
+use Rattle.pair_world.proofs.Terms.{same_node, node_same}
+use Rattle.pair_world.proofs.Items.{some_is}
 
 module _ {E : Type 0} (due : List E → E → Type 0) (history : List (Frame E)) where
-  some_is : (r s : Refusal) → ◌≡◌ {A = Option Refusal} (Some r) (Some s) → r ≡ s
-  some_is r s e = cc
-
   not_both : (told : Option Refusal) (r : Refusal) → told ≡ Some r → told ≡ None → ⊥
   not_both told r a b = absurd (let e = sym a ∙ b in cc)
 
@@ -69,19 +65,6 @@ le_passed m n r is = let e = passed (nat_le m n) r is in grind (arith, nat_tests
 
 pub le_passes : (m n : ℕ) (r : Refusal) → n < m → when (nat_le m n) r ≡ None
 le_passes m n r less = passes (nat_le m n) r (let e = less in grind (arith, nat_tests))
-
-pub same_node : (m n : NodeName) → is_node m n ≡ true → m ≡ n
-same_node A A is = refl
-same_node B B is = refl
-same_node A B is = absurd (cc)
-same_node B A is = absurd (cc)
-
-pub node_same : (m n : NodeName) → m ≡ n → is_node m n ≡ true
-node_same m n e = subst (λ z. is_node m z ≡ true) e (itself m)
-  where
-    itself : (n : NodeName) → is_node n n ≡ true
-    itself A = refl
-    itself B = refl
 
 pub both_passed : (m : Mode) (r : Refusal) → when (is_alone m) r ≡ None → m ≡ Both
 both_passed Both r is = refl

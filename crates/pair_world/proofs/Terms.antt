@@ -7,7 +7,8 @@ use Rattle.ali_base.specs.declared.duty.Duty.{Duty}
 use Rattle.pair_world.specs.Frames.{In}
 use Rattle.pair_world.specs.World.{other, is_node, term, last_epoch_of, term_from}
 use Rattle.pair_world.specs.SoundWorld.{AreCounted}
-use Rattle.pair_world.proofs.Items.{by_test}
+use Rattle.std.proofs.lemmas.Bool.{cond_both}
+use Rattle.pair_world.proofs.Items.{not_there}
 
 in_front : {A : Type 0} (x : A) (xs : List A) (y : A) → In (x ∷ xs) y → (x ≡ y) ⊎ In xs y
 in_front x xs y h = by_place h.0 h.1
@@ -15,9 +16,6 @@ in_front x xs y h = by_place h.0 h.1
     by_place : (k : ℕ) → slice_get (x ∷ xs) k ≡ Some y → (x ≡ y) ⊎ In xs y
     by_place zero e = inl (cc)
     by_place (suc k) e = inr (k, e)
-
-not_in : {A : Type 0} (y : A) (k : ℕ) → slice_get {X = A} [] k ≡ Some y → ⊥
-not_in y k e = absurd (cc)
 
 -- a term is never empty
 term_front : (k : ℕ) (d : Duty) (ds : List Duty) → last_epoch_of k (term d ds) ≡ last_epoch_of d.epoch (term d ds)
@@ -36,15 +34,21 @@ term_step d b bs = by_holder (is_node d.holder b.holder)
     by_holder true = term_front d.epoch b bs
     by_holder false = refl
 
-pub holder_term : (d b : Duty) (bs : List Duty) → d.holder ≡ b.holder → term_from d (b ∷ bs) ≡ term_from b bs
-holder_term d b bs same = term_step d b bs ∙ ap (λ t. cond t (term_from b bs) d.epoch) (is_same d.holder b.holder same)
+pub same_node : (m n : NodeName) → is_node m n ≡ true → m ≡ n
+same_node A A is = refl
+same_node B B is = refl
+same_node A B is = absurd (cc)
+same_node B A is = absurd (cc)
+
+pub node_same : (m n : NodeName) → m ≡ n → is_node m n ≡ true
+node_same m n e = subst (λ z. is_node m z ≡ true) e (itself m)
   where
     itself : (n : NodeName) → is_node n n ≡ true
     itself A = refl
     itself B = refl
 
-    is_same : (m n : NodeName) → m ≡ n → is_node m n ≡ true
-    is_same m n e = subst (λ z. is_node m z ≡ true) e (itself m)
+pub holder_term : (d b : Duty) (bs : List Duty) → d.holder ≡ b.holder → term_from d (b ∷ bs) ≡ term_from b bs
+holder_term d b bs same = term_step d b bs ∙ ap (λ t. cond t (term_from b bs) d.epoch) (node_same d.holder b.holder same)
 
 pub taker_term : (d b : Duty) (bs : List Duty) → d.holder ≡ other b.holder → term_from d (b ∷ bs) ≡ d.epoch
 taker_term d b bs taker = term_step d b bs ∙ ap (λ n. cond (is_node n b.holder) (term_from b bs) d.epoch) taker ∙ ap (λ t. cond t (term_from b bs) d.epoch) (is_apart b.holder)
@@ -57,12 +61,12 @@ pub term_low : (d : Duty) (ds : List Duty) → AreCounted d ds → term_from d d
 term_low d [] c = omega arith
 term_low d (b ∷ bs) c =
     let rec = term_low b bs c.1 in
-    subst (λ t. t ≤ d.epoch) (sym (term_step d b bs)) (by_test (λ t. t ≤ d.epoch) (is_node d.holder b.holder) (term_from b bs) d.epoch (λ same. omega (arith, c.0, rec)) (λ apart. omega arith))
+    subst (λ t. t ≤ d.epoch) (sym (term_step d b bs)) (cond_both (is_node d.holder b.holder) (term_from b bs) d.epoch (λ t. t ≤ d.epoch) (λ same. omega (arith, c.0, rec)) (λ apart. omega arith))
 
 pub term_within : (d : Duty) (ds : List Duty) (e : ℕ) → AreCounted d ds → (one : Duty) → In (term d ds) one → one.epoch ≡ e → (term_from d ds ≤ e) × (e ≤ d.epoch)
 term_within d [] e c one i is = elim (in_front d [] one i) [
   | inl same ↦ (let k = ap (λ (z : Duty). z.epoch) same in (omega arith, omega arith))
-  | inr none ↦ absurd (not_in one none.0 none.1)
+  | inr none ↦ absurd (not_there one none.0 none.1)
 ]
 term_within d (b ∷ bs) e c one i is =
     subst (λ t. (t ≤ e) × (e ≤ d.epoch)) (sym (term_step d b bs)) (by_holder (is_node d.holder b.holder) i (λ inside. term_within b bs e c.1 one inside is))
@@ -77,7 +81,7 @@ term_within d (b ∷ bs) e c one i is =
     ]
     by_holder false i rec = elim (in_front d [] one i) [
       | inl same ↦ (let k = ap (λ (z : Duty). z.epoch) same in (omega arith, omega arith))
-      | inr none ↦ absurd (not_in one none.0 none.1)
+      | inr none ↦ absurd (not_there one none.0 none.1)
     ]
 
 pub term_has : (d : Duty) (ds : List Duty) (e : ℕ) → AreCounted d ds → term_from d ds ≤ e → e ≤ d.epoch → (one : Duty) × In (term d ds) one × (one.epoch ≡ e)

@@ -1,6 +1,6 @@
 -- Each event keeps a sound world sound.
-use Rattle.std.proofs.Common.{◌≡◌, ℕ, zero, suc, ◌<◌, ◌≤◌, inl, inr, Bool, true, false, cond, nat_lt, List, [], ◌∷◌, length, take, refl, ap, sym, ◌∙◌, subst, arith, Some}
-use Rattle.std.specs.Prelude.{slice_get, min, max}
+use Rattle.std.proofs.Common.{◌≡◌, ℕ, zero, suc, ◌<◌, ◌≤◌, inl, inr, Bool, true, false, cond, nat_lt, List, [], ◌∷◌, length, take, refl, ap, sym, ◌∙◌, subst, arith}
+use Rattle.std.specs.Prelude.{min, max}
 use Rattle.std.proofs.lemmas.List.{take_all}
 use Rattle.std.proofs.lemmas.Bool.Decides.{nat_tests}
 use Rattle.ali_base.specs.declared.names.NodeName.{NodeName}
@@ -22,6 +22,7 @@ use Rattle.pair_world.proofs.Terms.{either}
 use Rattle.pair_world.proofs.Moves.{keeps_known, keeps_lost, keeps_heard, keeps_shipped, keeps_written, keeps_history}
 use Rattle.pair_world.proofs.DutyMoves.{keeps_same_holder, keeps_taken}
 use Rattle.pair_world.proofs.DeliveryMoves.{keeps_answer, answer_ack, shipment_fits, keeps_told, keeps_acked}
+use Rattle.pair_world.proofs.Items.{not_there}
 
 -- a node's state is put in its place
 module _ {E : Type 0} where
@@ -351,9 +352,6 @@ module _ {E Q : Type 0} (due : List E → E → Type 0) (bounds : Bounds) (w : R
   after_step Start_duty v g = absurd g
   after_step (Ask n r since) v g = absurd g
 
-no_item : {A : Type 0} (x : A) (i : ℕ) → slice_get {X = A} [] i ≡ Some x → ⊥
-no_item x i h = absurd (cc)
-
 pub formatted_sound : {E : Type 0} (due : List E → E → Type 0) → IsParts due formatted
 formatted_sound {E} due =
     record {
@@ -363,13 +361,13 @@ formatted_sound {E} due =
       time = record {
         mine = record { never_fall = λ j k le within. falls j k le within; below = λ k within. low k within };
         others = record { never_fall = λ j k le within. falls j k le within; below = λ k within. low k within };
-        ships = λ x i. absurd (no_item (Ships x) i.0 i.1);
-        frames = λ x f i is. absurd (no_item (Ships x) i.0 i.1);
-        acks = λ a i. absurd (no_item (Acks a) i.0 i.1);
+        ships = λ x i. absurd (not_there (Ships x) i.0 i.1);
+        frames = λ x f i is. absurd (not_there (Ships x) i.0 i.1);
+        acks = λ a i. absurd (not_there (Acks a) i.0 i.1);
       };
       names = λ k f g nf ng same. absurd (unnamed k f nf);
-      ships = λ x i later. absurd (no_item (Ships x) i.0 i.1);
-      acks = record { acks = λ a i now. absurd (no_item (Acks a) i.0 i.1); acked = Shares-none [] []; ended = λ k is. absurd (omega arith) };
+      ships = λ x i later. absurd (not_there (Ships x) i.0 i.1);
+      acks = record { acks = λ a i now. absurd (not_there (Acks a) i.0 i.1); acked = Shares-none [] []; ended = λ k is. absurd (omega arith) };
       known = record { holder = refl; none_later = λ n. knows n };
       counted = refl;
       floors = tt;
@@ -388,9 +386,9 @@ formatted_sound {E} due =
     low (suc k) within = absurd (omega arith)
 
     unnamed : (k : ℕ) (f : Frame E) → Named [] [] [] k f → ⊥
-    unnamed k f (inl h) = no_item f k h
-    unnamed k f (inr (inl h)) = no_item f k h
-    unnamed k f (inr (inr m)) = no_item (Ships m.0) m.1.0 m.1.1
+    unnamed k f (inl h) = not_there f k h
+    unnamed k f (inr (inl h)) = not_there f k h
+    unnamed k f (inr (inr m)) = not_there (Ships m.0) m.1.0 m.1.1
 
     knows : (n : NodeName) → known {E = E} formatted n ≤ 1
     knows A = omega arith

@@ -1,6 +1,5 @@
 -- What a delivery is answered, and what it leaves: the answer and the state of the receiver alone.
-use Rattle.std.specs.Prelude.{ℕ, ◌≡◌, ◌<◌, Option, Bool}
-use Rattle.pair_world.specs.World.{other, Shipment, told_by, NodeState, node_at, Resolved, with_node, put_node, World}
+use Rattle.pair_world.specs.World.{other, Shipment, told_by, NodeState, node_at, Resolved, with_node}
 use Rattle.pair_world.specs.Deliveries.{NodeMessage, NodeReply, answer, ack_end, reply_to, journal_left, known_left}
 use Rattle.pair_world.specs.Changes.{with_ack}
 
