@@ -7,7 +7,7 @@ use Rattle.pair_world.specs.Frames.{Frame}
 use Rattle.pair_world.specs.World.{other, is_node, Shipment, Ack, Ships, Acks, node_at, holder_journal, known, is_up, World, MayHold}
 use Rattle.pair_world.specs.Step.{Bounds, CanWrite, CanShip, CanBook, CanLeavePair, CanPair, CanHear}
 use Rattle.pair_world.specs.SoundWorld.{IsSound, Booked}
-use Rattle.pair_world.specs.Refusals.{Item, IsPassed, message_limit, is_alone, needed_length, short, ask_row, write_row, ship_row, message_row, book_row, take_row, pair_row, start_row}
+use Rattle.pair_world.specs.Refusals.{Item, IsPassed, message_limit, is_alone, needed_length, short, ready_row, ask_row, catch_up_row, shipping_row, receiving_row, write_row, ship_row, message_row, book_row, take_row, pair_row, start_row}
 use Rattle.pair_world.proofs.Lists.{Begins-length}
 use Rattle.pair_world.proofs.RowTests.{passed, passes, not_false, is_true, up_passed, up_passes, lt_passed, lt_passes, le_passed, le_passes, both_passed, both_passes, alone_passed, alone_passes, in_duty_passed, in_duty_passes, stored_passed, stored_passes}
 use Rattle.pair_world.proofs.SoundSteps.{base_has_parts, journals_begin, holder_begins}
@@ -153,6 +153,40 @@ module _ {E : Type 0} (due : List E → E → Type 0) (w : World E) where
   pub ask_passed : (n : NodeName) (since : ℕ) → (w.register_up ≡ true) × is_up w.base n × ((n ≡ w.base.duty.holder) ⊎ (w.base.duty.mode ≡ Both)) × (since ≤ length w.base.booked) → Passed (ask_row w n since)
   ask_passed n since g =
       (up_passes w.register_up _ g.0, (up_passes (node_at w.base.nodes n).up _ g.1, (in_duty_passes w.base.duty.mode n w.base.duty.holder _ g.2, (lt_passes (length w.base.booked) since _ g.3, tt))))
+
+  pub ready_exact : (n : NodeName) → Passed (ready_row w n) → (w.register_up ≡ true) × is_up w.base n × ((n ≡ w.base.duty.holder) ⊎ (w.base.duty.mode ≡ Both))
+  ready_exact n (reg, (up, (step, end))) =
+      (up_passed w.register_up _ reg, up_passed (node_at w.base.nodes n).up _ up, in_duty_passed w.base.duty.mode n w.base.duty.holder _ step)
+
+  pub ready_passed : (n : NodeName) → (w.register_up ≡ true) × is_up w.base n × ((n ≡ w.base.duty.holder) ⊎ (w.base.duty.mode ≡ Both)) → Passed (ready_row w n)
+  ready_passed n g = (up_passes w.register_up _ g.0, (up_passes (node_at w.base.nodes n).up _ g.1, (in_duty_passes w.base.duty.mode n w.base.duty.holder _ g.2, tt)))
+
+  pub catch_up_exact : Passed (catch_up_row w) → (w.register_up ≡ true) × is_up w.base w.base.duty.holder × (w.base.duty.mode ≡ Alone) × is_up w.base (other w.base.duty.holder)
+  catch_up_exact (reg, (up, (alone, (also, end)))) =
+      (up_passed w.register_up _ reg, up_passed (node_at w.base.nodes w.base.duty.holder).up _ up, alone_passed w.base.duty.mode _ alone, up_passed (node_at w.base.nodes (other w.base.duty.holder)).up _ also)
+
+  pub catch_up_passed : (w.register_up ≡ true) × is_up w.base w.base.duty.holder × (w.base.duty.mode ≡ Alone) × is_up w.base (other w.base.duty.holder) → Passed (catch_up_row w)
+  catch_up_passed g = (
+    up_passes w.register_up _ g.0,
+    (
+      up_passes (node_at w.base.nodes w.base.duty.holder).up _ g.1,
+      (alone_passes w.base.duty.mode _ g.2, (up_passes (node_at w.base.nodes (other w.base.duty.holder)).up _ g.3, tt)),
+    ),
+  )
+
+  pub shipping_exact : (k : ℕ) → 0 < k → Passed (shipping_row w k) → (w.register_up ≡ true) × CanShip w.base k
+  shipping_exact k low (reg, (up, (there, end))) =
+      (up_passed w.register_up _ reg, record { up = up_passed (node_at w.base.nodes w.base.duty.holder).up _ up; from = low; within = lt_passed (suc (length (holder_journal w.base))) k _ there })
+
+  pub shipping_passed : (k : ℕ) → (w.register_up ≡ true) × CanShip w.base k → Passed (shipping_row w k)
+  shipping_passed k g =
+      (up_passes w.register_up _ g.0, (up_passes (node_at w.base.nodes w.base.duty.holder).up _ g.1.up, (lt_passes (suc (length (holder_journal w.base))) k _ g.1.within, tt)))
+
+  pub receiving_exact : (x : Shipment E) → Passed (receiving_row w x) → is_up w.base (other x.sender) × (known w.base (other x.sender) ≤ x.epoch)
+  receiving_exact x (up, (fresh, end)) = (up_passed (node_at w.base.nodes (other x.sender)).up _ up, lt_passed x.epoch (known w.base (other x.sender)) _ fresh)
+
+  pub receiving_passed : (x : Shipment E) → is_up w.base (other x.sender) × (known w.base (other x.sender) ≤ x.epoch) → Passed (receiving_row w x)
+  receiving_passed x g = (up_passes (node_at w.base.nodes (other x.sender)).up _ g.0, (lt_passes x.epoch (known w.base (other x.sender)) _ g.1, tt))
 
   -- each list that a disk may hold is as long as a start asks
   pub never_short : (n : NodeName) (journal : List (Frame E)) → IsSound due w → MayHold w n journal → short w n journal ≡ None

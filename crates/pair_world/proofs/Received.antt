@@ -1,8 +1,8 @@
 -- A delivery is answered as the receiver alone answers it.
-use Rattle.std.proofs.Common.{◌≡◌, ℕ, suc, ◌<◌, ◌≤◌, inl, inr, true, false, cond, nat_lt, ◌==◌, ◌-◌, List, length, refl, ap, sym, ◌∙◌, subst, arith, Option, Some, None}
+use Rattle.std.proofs.Common.{◌⊎◌, ◌≡◌, ℕ, suc, ◌<◌, ◌≤◌, inl, inr, true, false, cond, nat_lt, ◌==◌, ◌-◌, List, length, refl, ap, sym, ◌∙◌, subst, arith, Option, Some, None}
 use Rattle.std.proofs.lemmas.Bool.Decides.{nat_tests}
 use Rattle.pair_world.specs.Frames.{Frame, epoch_at, item_at, OnItem}
-use Rattle.pair_world.specs.World.{other, Shipment, Message, Ships, told_by, put_node, Resolved, known, with_node, World}
+use Rattle.pair_world.specs.World.{other, Shipment, Message, Ships, told_by, put_node, Resolved, is_up, known, with_node, World}
 use Rattle.pair_world.specs.Deliveries.{NodeMessage, Told_stale, Told_behind, told_as, Answer, Behind, Cut, Stored, Have, Have_end, differs_before, old_next, answer_in, answer, journal_after, ack_end, journal_left, known_left}
 use Rattle.pair_world.specs.Changes.{delivered, epoch_heard, journal_stored, with_ack}
 use Rattle.pair_world.specs.Replies.{receiver, said, state_left, receiver_changed, receiver_answered}
@@ -99,3 +99,13 @@ module _ {E : Type 0} (w : World E) (i : ℕ) (x : Shipment E) (at : item_at w.b
 
   pub taken_not_behind : CanStore w.base x → answer (receiver w.base x).journal (told_by x) ≡ Behind → ⊥
   taken_not_behind g = not_behind (receiver w.base x).journal (told_by x) g.not_behind
+
+-- a shipment that is not stale finds its receiver behind, or not
+pub behind_or_not : {E : Type 0} (w : Resolved E) (x : Shipment E) → is_up w (other x.sender) → known w (other x.sender) ≤ x.epoch → IsBehind w x ⊎ CanStore w x
+behind_or_not w x up fresh = elim (split x.preceding (length (receiver w x).journal)) [
+  | inl short ↦ inl (record { up = up; not_stale = fresh; behind = short })
+  | inr long ↦ inr (record { up = up; not_stale = fresh; not_behind = long })
+]
+  where
+    split : (m n : ℕ) → (n < m) ⊎ (m ≤ n)
+    split m n = grind arith

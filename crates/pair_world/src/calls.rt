@@ -1,8 +1,8 @@
 //! What a call of a node, or of the pair of two nodes, is in the world.
-ghost use Rattle.std.specs.Prelude.{◌≡◌, ◌<◌, ◌↔◌, ◌∷◌, [], ◌++◌, ℕ, suc, List, length, Some, true};
+ghost use Rattle.std.specs.Prelude.{◌≡◌, ◌<◌, ◌≤◌, ◌↔◌, ◌⊎◌, ◌∷◌, [], ◌++◌, ℕ, suc, List, length, Some, true};
 ghost use Rattle.ali_base.specs.declared.duty.Duty.{Duty};
 ghost use Rattle.pair_world.specs.Frames.{Frame, Begins, item_at};
-ghost use Rattle.pair_world.specs.World.{other, Shipment, Ships, told_by, known, World, MayRead, MayList, duty_list, opened, opened_from};
+ghost use Rattle.pair_world.specs.World.{other, Shipment, Ships, told_by, known, is_up, World, MayRead, MayList, duty_list, opened, opened_from};
 ghost use Rattle.pair_world.specs.Deliveries.{Told_stale, Told_behind, told_as, answer, Behind, journal_left};
 ghost use Rattle.pair_world.specs.Changes.{journal_stored};
 ghost use Rattle.pair_world.specs.Replies.{receiver, said, state_left, receiver_changed, receiver_answered};
@@ -44,6 +44,10 @@ pub fn deliveries_are_the_receivers<L: Entries>()
         ≡ (receiver w.base x).journal)
         × HearsEpoch {Q = L.Request} w (Deliver i)
         (record w { base = receiver_changed w.base x }) }
+    // A delivery that is not refused is answered BEHIND, or is done.
+    ensures either { (w : World L.Entry) (x : Shipment L.Entry)
+        → is_up w.base (other x.sender) → known w.base (other x.sender) ≤ x.epoch
+        → IsBehind w.base x ⊎ CanStore w.base x }
     // All other answers: the delivery is done.
     ensures done { (bounds : Bounds) (w : World L.Entry) (i : ℕ) (x : Shipment L.Entry)
         → item_at w.base.messages i ≡ Some (Ships x) → w.register_up ≡ true → CanStore w.base x

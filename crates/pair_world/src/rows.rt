@@ -1,12 +1,12 @@
 //! The rows of refusals: a call can be done exactly where no refusal of its row holds.
 ghost use Rattle.std.specs.Prelude.{◌≡◌, ◌≤◌, ◌<◌, ◌↔◌, ◌⊎◌, ℕ, List, length, None, Some, true, false};
 ghost use Rattle.ali_base.specs.declared.names.NodeName.{NodeName};
-ghost use Rattle.ali_base.specs.declared.duty.Mode.TheVariants.{Both};
+ghost use Rattle.ali_base.specs.declared.duty.Mode.TheVariants.{Both, Alone};
 ghost use Rattle.pair_world.specs.Frames.{Frame};
 ghost use Rattle.pair_world.specs.World.{other, Shipment, Ack, Ships, Acks, node_at, known, is_up, World, MayHold};
 ghost use Rattle.pair_world.specs.Step.{Bounds, CanWrite, CanShip, CanBook, CanLeavePair, CanPair, CanHear};
 ghost use Rattle.pair_world.specs.SoundWorld.{IsSound};
-ghost use Rattle.pair_world.specs.Refusals.{Refusal, Item, IsRefused, IsPassed, message_limit, needed_length, short, ask_row, write_row, ship_row, message_row, book_row, take_row, alone_row, pair_row, stop_row, start_row, start_duty_row};
+ghost use Rattle.pair_world.specs.Refusals.{Refusal, Item, IsRefused, IsPassed, message_limit, needed_length, short, ready_row, ask_row, catch_up_row, shipping_row, receiving_row, write_row, ship_row, message_row, book_row, take_row, pair_row, stop_row, start_row, start_duty_row};
 
 use crate::laws::Entries;
 
@@ -59,6 +59,20 @@ pub fn rows_are_exact<L: Entries>()
         ↔ ((w.register_up ≡ true) × is_up w.base node
         × ((node ≡ w.base.duty.holder) ⊎ (w.base.duty.mode ≡ Both))
         × (since ≤ length w.base.booked)) }
+    ensures ready { (w : World L.Entry) (node : NodeName)
+        → IsPassed L.due w.base.booked (ready_row w node)
+        ↔ ((w.register_up ≡ true) × is_up w.base node
+        × ((node ≡ w.base.duty.holder) ⊎ (w.base.duty.mode ≡ Both))) }
+    ensures catch_up { (w : World L.Entry)
+        → IsPassed L.due w.base.booked (catch_up_row w)
+        ↔ ((w.register_up ≡ true) × is_up w.base w.base.duty.holder
+        × (w.base.duty.mode ≡ Alone) × is_up w.base (other w.base.duty.holder)) }
+    ensures shipping { (w : World L.Entry) (k : ℕ) → 0 < k
+        → IsPassed L.due w.base.booked (shipping_row w k)
+        ↔ ((w.register_up ≡ true) × CanShip w.base k) }
+    ensures receiving { (w : World L.Entry) (x : Shipment L.Entry)
+        → IsPassed L.due w.base.booked (receiving_row w x)
+        ↔ (is_up w.base (other x.sender) × (known w.base (other x.sender) ≤ x.epoch)) }
     // SHORT never comes in a sound world: each list that the disk may hold is long enough.
     ensures short { (w : World L.Entry) (node : NodeName) (journal : List (Frame L.Entry))
         → IsSound L.due w → MayHold w node journal → short w node journal ≡ None }

@@ -1,5 +1,5 @@
 use Rattle.std.proofs.Common.{sym}
-use Rattle.pair_world.proofs.Received.{stale_said, stale_left, stale_same, fresh_said, fresh_left, behind_said, behind_left, behind_heard, taken_done, taken_not_behind}
+use Rattle.pair_world.proofs.Received.{stale_said, stale_left, stale_same, fresh_said, fresh_left, behind_said, behind_left, behind_heard, taken_done, taken_not_behind, behind_or_not}
 use Rattle.pair_world.proofs.calls.deliveries_are_the_receivers.Goals as goal
 
 pub returns-clause-stale : goal.returns-clause-stale
@@ -15,3 +15,6 @@ returns-clause-done g c bounds w i x at reg can = (
   sym (fresh_left w.base x can.not_stale),
   taken_done w i x at g.L.Entries.due bounds reg can,
 )
+
+pub returns-clause-either : goal.returns-clause-either
+returns-clause-either g c w x up fresh = behind_or_not w.base x up fresh

@@ -1,4 +1,4 @@
-use Rattle.pair_world.proofs.ExactRows.{write_exact, write_passed, ship_exact, ship_passed, shipment_exact, shipment_passed, ack_exact, ack_passed, book_exact, book_passed, take_exact, take_passed, pair_exact, pair_passed, start_exact, start_passed, ask_exact, ask_passed, never_short}
+use Rattle.pair_world.proofs.ExactRows.{write_exact, write_passed, ship_exact, ship_passed, shipment_exact, shipment_passed, ack_exact, ack_passed, book_exact, book_passed, take_exact, take_passed, pair_exact, pair_passed, start_exact, start_passed, ask_exact, ask_passed, never_short, ready_exact, ready_passed, catch_up_exact, catch_up_passed, shipping_exact, shipping_passed, receiving_exact, receiving_passed}
 use Rattle.pair_world.proofs.rows.rows_are_exact.Goals as goal
 
 pub returns-clause-write : goal.returns-clause-write
@@ -30,3 +30,15 @@ returns-clause-ask g c w node since = (ask_exact g.L.Entries.due w node since, a
 
 pub returns-clause-short : goal.returns-clause-short
 returns-clause-short g c w node journal s may = never_short g.L.Entries.due w node journal s may
+
+pub returns-clause-ready : goal.returns-clause-ready
+returns-clause-ready g c w node = (ready_exact g.L.Entries.due w node, ready_passed g.L.Entries.due w node)
+
+pub returns-clause-catch_up : goal.returns-clause-catch_up
+returns-clause-catch_up g c w = (catch_up_exact g.L.Entries.due w, catch_up_passed g.L.Entries.due w)
+
+pub returns-clause-shipping : goal.returns-clause-shipping
+returns-clause-shipping g c w k low = (shipping_exact g.L.Entries.due w k low, shipping_passed g.L.Entries.due w k)
+
+pub returns-clause-receiving : goal.returns-clause-receiving
+returns-clause-receiving g c w x = (receiving_exact g.L.Entries.due w x, receiving_passed g.L.Entries.due w x)
