@@ -22,7 +22,9 @@ pub mod LargerLimits
 pub mod Computed
 pub mod WorkedRuns
 pub mod NeededRuns
+pub mod QuietWorlds
 pub mod OtherParts
+pub mod DoubtfulParts
 pub mod DutyLists
 pub mod Received
 pub mod RowTests

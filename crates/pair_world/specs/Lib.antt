@@ -11,3 +11,4 @@ pub mod FaultOrigin
 pub mod Limits
 pub mod WorkedSchedules
 pub mod NeededParts
+pub mod DoubtfulWorlds

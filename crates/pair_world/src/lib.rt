@@ -18,6 +18,7 @@ pub use laws::{
 pub use needed::{
     acknowledged_is_needed, agreement_follows, booked_is_needed, current_is_needed,
     floored_is_needed, following_is_needed, in_time_is_needed, known_is_needed, mirrored_is_needed,
+    one_journal_of_takers_is_needed, unrecovered_parts_are_needed,
 };
 pub use rows::{refusals_are_one, rows_are_exact};
 pub use worked::{

@@ -1,13 +1,15 @@
 //! What each part of the invariant is for: a world that has all the other parts, and a schedule from it that
 //! books an entry which may not be booked next, makes a pair of two journals, or comes to a takeover that loses
 //! what was booked.
-ghost use Rattle.std.specs.Prelude.{◌≡◌, ◌⊎◌, [], ◌∷◌};
+ghost use Rattle.std.specs.Prelude.{◌≡◌, ◌⊎◌, [], ◌∷◌, true};
 ghost use Rattle.ali_base.specs.declared.names.NodeName.TheVariants.{A, B};
 ghost use Rattle.ali_base.specs.declared.duty.Mode.TheVariants.{Both, Alone};
 ghost use Rattle.pair_world.specs.Frames.{Begins, Agree, Legal};
-ghost use Rattle.pair_world.specs.SoundWorld.{IsMirrored, HasUncommittedSuffix, Booked, Mirrored, Following, In_time, Current, Acknowledged, Known, Floored};
-ghost use Rattle.pair_world.specs.World.{Resolved, holder_journal, other_journal};
-ghost use Rattle.pair_world.specs.Step.{Book, Take, Runs};
+ghost use Rattle.pair_world.specs.SoundWorld.{IsMirrored, HasUncommittedSuffix, Booked, Mirrored, Following, In_time, Current, Acknowledged, Known, Floored, Invariant};
+ghost use Rattle.pair_world.specs.World.{Resolved, holder_journal, other_journal, Choice, unrecovered, resolved};
+ghost use Rattle.pair_world.specs.Step.{Book, Take, Start_duty, WorldStep, Runs};
+ghost use Rattle.pair_world.specs.Changes.{register_started};
+ghost use Rattle.pair_world.specs.DoubtfulWorlds.{doubtful_taker, write_lasted, replaced_history};
 ghost use Rattle.pair_world.specs.NeededParts.{HasOthers, Loses, RunsToLoss, not_due, booked_all_the_same, after_not_due, not_mirrored, young_suffix, paired_early, after_young_suffix, not_agreeing, paired_apart, after_not_agreeing, early_ack, booked_unstored, after_early_ack, not_current, stored_stray, after_stray, not_stored, after_not_stored, stored_after_start, high_floor, recovered_too_far, after_high_floor};
 ghost use Rattle.pair_world.specs.WorkedSchedules.{office_bounds, done};
 
@@ -95,4 +97,29 @@ pub fn floored_is_needed<L: Entries>()
     ensures high_floor_loses { (entry : L.Entry)
         → RunsToLoss L.due L.form (high_floor entry) recovered_too_far
         (after_high_floor entry) (Take B) }
+{}
+
+/// While the register is down, the nine parts of each resolution are not enough. Where the node of a takeover in
+/// doubt may have either of two journals, a start of the register leads to a resolution without the parts.
+pub fn one_journal_of_takers_is_needed<L: Entries>()
+    ensures unrecovered { (one another : L.Entry) (choice : Choice)
+        → Invariant L.due (unrecovered choice (doubtful_taker one another)) }
+    ensures resolved { (one another : L.Entry) (choice : Choice)
+        → L.due [] one → L.due [] another
+        → Invariant L.due (resolved choice (doubtful_taker one another)) }
+    ensures starts { (one another : L.Entry)
+        → WorldStep {Q = L.Request} L.due office_bounds (doubtful_taker one another) Start_duty
+        (register_started (doubtful_taker one another) true) }
+    ensures breaks { (one another : L.Entry) → (one ≡ another → ⊥)
+        → Invariant L.due
+        (resolved write_lasted (register_started (doubtful_taker one another) true)) → ⊥ }
+{}
+
+/// Where the parts do not hold before the recovery too, a start of the register loses what was booked.
+pub fn unrecovered_parts_are_needed<L: Entries>()
+    ensures resolved { (booked one another : L.Entry) (choice : Choice)
+        → L.due [] one → L.due (one ∷ []) another
+        → Invariant L.due (resolved choice (replaced_history booked one another)) }
+    ensures loses { (booked one another : L.Entry) → (booked ≡ one → ⊥)
+        → Loses {Q = L.Request} L.due (replaced_history booked one another) Start_duty }
 {}
