@@ -30,3 +30,4 @@ pub mod Received
 pub mod RowTests
 pub mod ExactRows
 pub mod Moments
+pub mod Passing

@@ -8,7 +8,8 @@ use Rattle.pair_world.specs.World.{node_at, Resolved, without_doubt}
 use Rattle.pair_world.specs.Deliveries.{answer}
 use Rattle.pair_world.specs.Changes.{new_duty, register_failed, duty_changed}
 use Rattle.pair_world.specs.Step.{Book, Take, CanLeavePair, Runs}
-use Rattle.pair_world.specs.WorkedSchedules.{office_bounds, done, framed}
+use Rattle.pair_world.specs.WorkedSchedules.{office_bounds, framed}
+use Rattle.pair_world.specs.Passing.{done}
 use Rattle.pair_world.specs.NeededParts.{Loses, RunsToLoss, not_due, booked_all_the_same, after_not_due, not_mirrored, young_suffix, paired_early, after_young_suffix, not_agreeing, paired_apart, after_not_agreeing, early_ack, booked_unstored, after_early_ack, not_current, stored_stray, after_stray, not_stored, after_not_stored, stored_after_start, high_floor, recovered_too_far, after_high_floor}
 use Rattle.pair_world.proofs.Computed.{runs_told}
 

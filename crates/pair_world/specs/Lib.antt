@@ -9,6 +9,7 @@ pub mod Moments
 pub mod SoundWorld
 pub mod FaultOrigin
 pub mod Limits
+pub mod Passing
 pub mod WorkedSchedules
 pub mod NeededParts
 pub mod DoubtfulWorlds

@@ -6,7 +6,8 @@ use Rattle.pair_world.specs.Frames.{Frame, Begins}
 use Rattle.pair_world.specs.World.{Ships, Acks, Resolved, first_duty, World}
 use Rattle.pair_world.specs.Step.{Event, Write, Deliver, Book, Take, Pair_up, Stop, Start, Start_duty, Faulted, WorldStep, Turn, Runs}
 use Rattle.pair_world.specs.SoundWorld.{AreCounted, Part, Holds}
-use Rattle.pair_world.specs.WorkedSchedules.{office_bounds, done, passes_acked, framed, node_is, duty_is, world_at}
+use Rattle.pair_world.specs.WorkedSchedules.{office_bounds, framed, node_is, duty_is, world_at}
+use Rattle.pair_world.specs.Passing.{done, passes_acked}
 
 -- The event is done, and the history after it does not begin with the one before.
 abbrev pub Loses : {E Q : Type 0} → (List E → E → Type 0) → World E → Event E Q → Type 0

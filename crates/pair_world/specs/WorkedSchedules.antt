@@ -1,5 +1,5 @@
 -- Worked schedules, each with the world after it. Entries are any: E is their type.
-use Rattle.std.specs.Prelude.{ℕ, suc, List, [], ◌∷◌, ◌++◌, Some, Bool, true, false}
+use Rattle.std.specs.Prelude.{ℕ, List, [], ◌∷◌, ◌++◌, Some, Bool, true, false}
 use Rattle.ali_base.specs.declared.names.NodeName.{NodeName}
 use Rattle.ali_base.specs.declared.names.NodeName.TheVariants.{A, B}
 use Rattle.ali_base.specs.declared.duty.Mode.{Mode}
@@ -7,37 +7,16 @@ use Rattle.ali_base.specs.declared.duty.Mode.TheVariants.{Both, Alone}
 use Rattle.ali_base.specs.declared.duty.Duty.{Duty}
 use Rattle.pair_world.specs.Frames.{Frame}
 use Rattle.pair_world.specs.World.{Message, Ships, Acks, NodeState, first_duty, World, without_doubt}
-use Rattle.pair_world.specs.Step.{Event, Write, Ship, Deliver, Drop, Book, Take, Go_alone, Pair_up, Stop, Start, Start_duty, Done, Refused, Faulted, Bounds, WorldStep, Turn}
+use Rattle.pair_world.specs.Passing.{done, refused, passes, passes_acked}
+use Rattle.pair_world.specs.Step.{Event, Write, Ship, Deliver, Book, Take, Go_alone, Pair_up, Stop, Start, Start_duty, Faulted, Bounds, WorldStep, Turn}
 
 -- The limits of the office.
 abbrev pub office_bounds : Bounds
 office_bounds = record { frames = 1000000; last_epoch = 4194303 }
 
--- The event is done.
-abbrev pub done : {E Q R : Type 0} → Event E Q → Turn E Q R
-done event = record { event = event; outcome = Done }
-
--- The event is refused.
-abbrev pub refused : {E Q R : Type 0} → Event E Q → Turn E Q R
-refused event = record { event = event; outcome = Refused }
-
 -- The event cannot be done in this world, so it is refused.
 abbrev pub IsNotDone : {E Q : Type 0} → (List E → E → Type 0) → World E → Event E Q → Type 0
 IsNotDone due w event = (v : World _) → WorldStep due office_bounds w event v → ⊥
-
--- The holder passes frame k on, and no acknowledgement is made. So many messages are on their way besides.
-abbrev pub passes : {E Q R : Type 0} → (k besides : ℕ) → List (Turn E Q R)
-passes k besides = done (Ship k) ∷ done (Deliver (suc besides)) ∷ done (Drop (suc besides)) ∷ []
-
--- The holder passes frame k on, and the acknowledgement comes back.
-abbrev pub passes_acked : {E Q R : Type 0} → (k besides : ℕ) → List (Turn E Q R)
-passes_acked k besides =
-    done (Ship k)
-    ∷ done (Deliver (suc besides))
-    ∷ done (Deliver (suc (suc besides)))
-    ∷ done (Drop (suc (suc besides)))
-    ∷ done (Drop (suc besides))
-    ∷ []
 
 -- An entry with its epoch.
 abbrev pub framed : {E : Type 0} → E → ℕ → Frame E

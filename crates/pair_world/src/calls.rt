@@ -1,13 +1,14 @@
 //! What a call of a node, or of the pair of two nodes, is in the world.
-ghost use Rattle.std.specs.Prelude.{◌≡◌, ◌<◌, ◌≤◌, ◌↔◌, ◌⊎◌, ◌∷◌, [], ◌++◌, ℕ, suc, List, length, Some, true};
+ghost use Rattle.std.specs.Prelude.{◌≡◌, ◌<◌, ◌≤◌, ◌↔◌, ◌⊎◌, ◌∷◌, [], ◌++◌, ℕ, suc, List, length, Some, None, Bool, true};
 ghost use Rattle.ali_base.specs.declared.duty.Duty.{Duty};
 ghost use Rattle.pair_world.specs.Frames.{Frame, Begins, item_at};
 ghost use Rattle.pair_world.specs.World.{other, Shipment, Ships, told_by, known, is_up, World, MayRead, MayList, duty_list, opened, opened_from};
-ghost use Rattle.pair_world.specs.Deliveries.{Told_stale, Told_behind, told_as, answer, Behind, journal_left};
-ghost use Rattle.pair_world.specs.Changes.{journal_stored};
+ghost use Rattle.pair_world.specs.Deliveries.{Told_stale, Told_behind, told_as, answer, Behind, ack_end, journal_left};
+ghost use Rattle.pair_world.specs.Changes.{journal_stored, shipment};
 ghost use Rattle.pair_world.specs.Replies.{receiver, said, state_left, receiver_changed, receiver_answered};
-ghost use Rattle.pair_world.specs.Step.{Event, Deliver, Halted, Bounds, WorldStep, Refuses, HearsEpoch, IsBehind, CanStore, Halts, Turn, Runs};
+ghost use Rattle.pair_world.specs.Step.{Event, Deliver, Halted, Bounds, WorldStep, Refuses, HearsEpoch, IsBehind, CanShip, CanStore, Halts, Turn, Runs};
 ghost use Rattle.pair_world.specs.SoundWorld.{IsSound};
+ghost use Rattle.pair_world.specs.Passing.{passes, passes_acked, passes_refused, passed, passed_acked};
 ghost use Rattle.pair_world.specs.Moments.{IsMoment, IsMomentIn};
 
 use crate::laws::Entries;
@@ -74,4 +75,26 @@ pub fn moments_are_halts<L: Entries>()
         (turns : List (Turn L.Entry L.Request L.Reply)) (event : Event L.Entry L.Request)
         → IsSound L.due w → IsMomentIn L.due L.form bounds w turns event v
         → IsSound L.due v × Begins v.base.booked w.base.booked }
+{}
+
+/// Passing frame k on for a course of events is to ship it, to deliver it, to deliver the acknowledgement where one
+/// was made, and to drop both. The list of messages is then as before, so all others keep their numbers.
+pub fn passing_on_is_a_course<L: Entries>()
+    ensures acked { (bounds : Bounds) (w : World L.Entry) (k : ℕ) (end : Bool)
+        → w.register_up ≡ true → CanShip w.base k → CanStore w.base (shipment w.base k)
+        → ack_end (answer (receiver w.base (shipment w.base k)).journal
+        (told_by (shipment w.base k))) ≡ Some end
+        → Runs L.due L.form bounds w (passes_acked k (length w.base.messages))
+        (passed_acked w k end) }
+    ensures cut { (bounds : Bounds) (w : World L.Entry) (k : ℕ)
+        → w.register_up ≡ true → CanShip w.base k → CanStore w.base (shipment w.base k)
+        → ack_end (answer (receiver w.base (shipment w.base k)).journal
+        (told_by (shipment w.base k))) ≡ None
+        → Runs L.due L.form bounds w (passes k (length w.base.messages)) (passed w k) }
+    ensures behind { (bounds : Bounds) (w : World L.Entry) (k : ℕ)
+        → w.register_up ≡ true → CanShip w.base k → IsBehind w.base (shipment w.base k)
+        → Runs L.due L.form bounds w (passes_refused k (length w.base.messages)) (passed w k) }
+    ensures stale { (bounds : Bounds) (w : World L.Entry) (k : ℕ)
+        → w.register_up ≡ true → CanShip w.base k
+        → Runs L.due L.form bounds w (passes_refused k (length w.base.messages)) w }
 {}

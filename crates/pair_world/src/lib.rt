@@ -10,7 +10,9 @@ mod needed;
 mod rows;
 mod worked;
 
-pub use calls::{deliveries_are_the_receivers, duties_are_one_list, moments_are_halts};
+pub use calls::{
+    deliveries_are_the_receivers, duties_are_one_list, moments_are_halts, passing_on_is_a_course,
+};
 pub use laws::{
     Entries, crashes_lose_nothing, faults_come_from_steps, history_only_grows, limits_hold,
     refusals_change_nothing, sound_worlds_are_legal, terms_have_no_gaps, worlds_stay_sound,

@@ -11,7 +11,8 @@ ghost use Rattle.pair_world.specs.Step.{Book, Take, Start_duty, WorldStep, Runs}
 ghost use Rattle.pair_world.specs.Changes.{register_started};
 ghost use Rattle.pair_world.specs.DoubtfulWorlds.{doubtful_taker, write_lasted, replaced_history};
 ghost use Rattle.pair_world.specs.NeededParts.{HasOthers, Loses, RunsToLoss, not_due, booked_all_the_same, after_not_due, not_mirrored, young_suffix, paired_early, after_young_suffix, not_agreeing, paired_apart, after_not_agreeing, early_ack, booked_unstored, after_early_ack, not_current, stored_stray, after_stray, not_stored, after_not_stored, stored_after_start, high_floor, recovered_too_far, after_high_floor};
-ghost use Rattle.pair_world.specs.WorkedSchedules.{office_bounds, done};
+ghost use Rattle.pair_world.specs.WorkedSchedules.{office_bounds};
+ghost use Rattle.pair_world.specs.Passing.{done};
 
 use crate::laws::Entries;
 
