@@ -1,5 +1,5 @@
 -- A sink in memory: its state, and what each put does.
-use Rattle.std.specs.Prelude.{ℕ, ◌-◌, ◌==◌, ◌&&◌, ◌++◌, Bool, not, List, length, take, min, if◌then◌else◌}
+use Rattle.std.specs.Prelude.{ℕ, ◌-◌, ◌==◌, ◌&&◌, ◌++◌, Bool, not, List, [], length, take, min, if◌then◌else◌}
 use Rattle.std.specs.List.{list_any}
 use Rattle.ali_base.specs.Columns.{is_empty}
 use Rattle.ali_base.specs.Faults.{one_more}
@@ -13,6 +13,10 @@ pub record SinkState : Type 0 where
   pub failing : List ℕ
   pub calls : ℕ
   pub faults : ℕ
+
+-- a sink that holds nothing yet
+abbrev pub new_sink : ℕ → List ℕ → SinkState
+new_sink capacity failing = record { held = []; capacity = capacity; failing = failing; calls = 0; faults = 0 }
 
 -- whether the next call fails: its number is in the list
 abbrev pub put_fails : SinkState → Bool

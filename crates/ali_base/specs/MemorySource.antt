@@ -14,6 +14,10 @@ pub record SourceState : Type 0 where
   pub calls : ℕ
   pub faults : ℕ
 
+-- a source of which nothing was taken yet
+abbrev pub new_source : List ℕ → ℕ → List ℕ → SourceState
+new_source bytes piece failing = record { left = bytes; piece = piece; failing = failing; calls = 0; faults = 0 }
+
 -- whether the next call fails: its number is in the list
 abbrev pub take_fails : SourceState → Bool
 take_fails s = list_any (λ call. call == one_more s.calls) s.failing

@@ -25,7 +25,8 @@ impl Model for Day {
 
     ghost view = { λ d. record { year = d.year; month = d.month; day = d.day } };
 
-    ghost invariant = { λ d. (2000 ≤ d.year) × (d.year ≤ 2099) × (d.month < 100) × (d.day < 100) × (is_civil_date d.year d.month d.day ≡ true) };
+    ghost invariant = { λ d. (2000 ≤ d.year) × (d.year ≤ 2099) × (d.month < 100) × (d.day < 100)
+        × (is_civil_date d.year d.month d.day ≡ true) };
 
     ghost inverse = { λ d. record { year = d.year; month = d.month; day = d.day } };
 }

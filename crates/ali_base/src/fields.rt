@@ -57,7 +57,8 @@ pub fn is_blank(bytes: &[u8]) -> bool
     }
 }
 
-/// The number that digits spell, leading zeros allowed; no digits spell 0. None where a byte is no digit.
+/// The number that digits spell, leading zeros allowed; no digits spell 0. None where a byte is no
+/// digit.
 #[tactic(auto, unfolding(crate::specs::Digits::digits_number))]
 pub fn digits_number(bytes: &[u8]) -> Option<u64>
     requires { length bytes.now ≤ 19 }

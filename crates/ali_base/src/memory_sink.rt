@@ -3,7 +3,7 @@ ghost use Rattle.std.specs.Prelude.{◌≡◌, ◌+◌, ◌≤◌, ◌==◌, ◌
 ghost use Rattle.ali_base.specs.Columns.{is_empty};
 ghost use Rattle.ali_base.specs.Faults.{one_more};
 ghost use Rattle.ali_base.specs.SinkCalls.{PutsWithin, PutsTo, PutCause};
-ghost use Rattle.ali_base.specs.MemorySink.{put_answer, after_put};
+ghost use Rattle.ali_base.specs.MemorySink.{new_sink, put_answer, after_put};
 
 use crate::no_memory::NoMemory;
 use crate::sink::{Put, Sink};
@@ -26,7 +26,13 @@ impl Model for MemSink {
 
     ghost Value = { SinkState };
 
-    ghost view = { λ s. record { held = take s.len s.room.items; capacity = length s.room.items; failing = s.failing.items; calls = s.calls; faults = s.faults } };
+    ghost view = { λ s. record {
+      held = take s.len s.room.items;
+      capacity = length s.room.items;
+      failing = s.failing.items;
+      calls = s.calls;
+      faults = s.faults;
+    } };
 
     ghost invariant = { λ s. s.len ≤ length s.room.items };
 }
@@ -35,7 +41,7 @@ impl MemSink {
     /// Room for `capacity` bytes, which is taken here; no later call takes memory. A put takes
     /// what still fits. The calls named in `failing` fail, counted from 1; with an empty list none does.
     pub fn new(alloc: Global, capacity: u64, failing: Vec<u64>) -> Result<Self, NoMemory>
-        ensures { IfOk result (λ s. s ≡ record { held = []; capacity = capacity; failing = failing.items; calls = 0; faults = 0 }) }
+        ensures { IfOk result (λ s. s ≡ new_sink capacity failing.items) }
     {
         Ok(MemSink {
             room: vec![in alloc; 0; capacity as usize]?,

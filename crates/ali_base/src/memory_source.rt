@@ -1,7 +1,7 @@
 //! A source in memory, for tests and for callers that have the bytes.
 ghost use Rattle.std.specs.Prelude.{◌≡◌, ◌≤◌, length, take, Some};
 ghost use Rattle.ali_base.specs.SourceCalls.{TakesWithin, TakesFrom, TakeCause};
-ghost use Rattle.ali_base.specs.MemorySource.{take_answer, after_take};
+ghost use Rattle.ali_base.specs.MemorySource.{new_source, take_answer, after_take};
 
 use crate::source::{Source, Taken};
 use std::marker::Model;
@@ -23,7 +23,13 @@ impl Model for MemSource {
 
     ghost Value = { SourceState };
 
-    ghost view = { λ s. record { left = drop s.at s.bytes.items; piece = s.piece; failing = s.failing.items; calls = s.calls; faults = s.faults } };
+    ghost view = { λ s. record {
+      left = drop s.at s.bytes.items;
+      piece = s.piece;
+      failing = s.failing.items;
+      calls = s.calls;
+      faults = s.faults;
+    } };
 
     ghost invariant = { λ s. s.at ≤ length s.bytes.items };
 }
@@ -32,7 +38,7 @@ impl MemSource {
     /// The bytes, of which a call gives at most `piece`, but at least one. The calls named in
     /// `failing` fail, counted from 1; with an empty list none does.
     pub fn new(bytes: Vec<u8>, piece: usize, failing: Vec<u64>) -> Self
-        ensures { result ≡ record { left = bytes.items; piece = piece; failing = failing.items; calls = 0; faults = 0 } }
+        ensures { result ≡ new_source bytes.items piece failing.items }
     {
         MemSource {
             bytes,

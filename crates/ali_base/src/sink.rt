@@ -5,7 +5,8 @@ ghost use Rattle.std.specs.declared.option.Option.{Option};
 /// What a call of `put` answers.
 #[derive(Clone, Copy, Debug, PartialEq, Eq)]
 pub enum Put {
-    /// So many bytes of the piece's front were taken. Where it is none of a piece that is not empty, the sink failed.
+    /// So many bytes of the piece's front were taken. Where it is none of a piece that is not empty,
+    /// the sink failed.
     Took(usize),
     /// The sink failed, and holds what it held.
     Failed,

@@ -35,7 +35,8 @@ impl StreetKey {
         requires name { length name.now ≤ 60 }
         requires suffix { length suffix.now ≤ 4 }
         requires post { length post.now ≤ 2 }
-        ensures { result ≡ street_key community.now state.now prefix.now name.now suffix.now post.now }
+        ensures { result
+            ≡ street_key community.now state.now prefix.now name.now suffix.now post.now }
     {
         let mut key = StreetKey {
             community: [b' '; 32],

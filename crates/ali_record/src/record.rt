@@ -88,7 +88,8 @@ impl Record {
     /// Whether its function sends an address, as I, C and M do. Its house number can then be read.
     pub fn sends_address(&self) -> bool
         ensures value { result ≡ sends_address (byte_of self.now Field.Function) }
-        ensures house { result ≡ true → IsSome (house_of (field_of self.now Field.HouseNumber)) }
+        ensures house { result ≡ true
+            → IsSome (house_of (field_of self.now Field.HouseNumber)) }
     {
         sends_address(byte_of(&self.bytes, Field::Function))
     }
@@ -133,7 +134,8 @@ impl Record {
 #[tactic(auto, unfolding(crate::specs::RecordReading::conditions))]
 fn first_fault(bytes: &[u8; 512], company: Company) -> Option<ReadingFault>
     ensures first { result ≡ first_fault (conditions company bytes.now) }
-    ensures own { result ≡ None → (field_of bytes.now Field.Company ≡ company) × (is_company company ≡ true) }
+    ensures own { result ≡ None
+        → (field_of bytes.now Field.Company ≡ company) × (is_company company ≡ true) }
 {
     if byte_of(bytes, Field::EndMark) != b'*' {
         return Some(ReadingFault::EndMark);

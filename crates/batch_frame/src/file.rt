@@ -41,7 +41,8 @@ impl<'a> Model for FileView<'a> {
 
     ghost view = { λ v. file_in v.bytes.now v.separator v.count v.company v.cycle v.day };
 
-    ghost invariant = { λ v. IsRead v.bytes.now (file_in v.bytes.now v.separator v.count v.company v.cycle v.day) };
+    ghost invariant = { λ v. IsRead v.bytes.now
+        (file_in v.bytes.now v.separator v.count v.company v.cycle v.day) };
 }
 
 impl<'a> FileView<'a> {
@@ -140,7 +141,9 @@ impl<'a> FileView<'a> {
 
 /// Reads the bytes as a carrier's file, and lends its parts; or gives the first fault. Takes no memory.
 pub fn read_file(bytes: &[u8]) -> Result<FileView<'_>, FrameFault>
-    ensures read { MatchResult result (IsRead bytes.now) (λ fault. frame_fault bytes.now ≡ Some fault) }
+    ensures read { MatchResult result
+        (IsRead bytes.now)
+        (λ fault. frame_fault bytes.now ≡ Some fault) }
     ensures value { IfOk result (λ file. file ≡ file_of bytes.now) }
 {
     let separator = separator_of(bytes);

@@ -21,7 +21,9 @@ pub fn separator_of(bytes: &[u8]) -> Separator
 #[tactic(auto, unfolding(crate::specs::FrameFault::length_fault))]
 pub fn check_length(bytes: &[u8], separator: Separator) -> Result<(), FrameFault>
     requires { separator ≡ separator_of bytes.now }
-    ensures { MatchResult result (λ _. length_fault bytes.now ≡ None) (λ fault. length_fault bytes.now ≡ Some fault) }
+    ensures { MatchResult result
+        (λ _. length_fault bytes.now ≡ None)
+        (λ fault. length_fault bytes.now ≡ Some fault) }
 {
     if 1_024 <= bytes.len() && is_whole(separator, bytes.len()) {
         Ok(())
@@ -45,7 +47,9 @@ pub fn count_records(bytes: &[u8], separator: Separator) -> Result<u32, FrameFau
     requires same { separator ≡ separator_of bytes.now }
     requires sound { length_fault bytes.now ≡ None }
     ensures { MatchResult result
-        (λ count. (too_many_fault bytes.now ≡ None) × (count ≡ found bytes.now) × (count ≤ MOST_RECORDS))
+        (λ count. (too_many_fault bytes.now ≡ None)
+        × (count ≡ found bytes.now)
+        × (count ≤ MOST_RECORDS))
         (λ fault. too_many_fault bytes.now ≡ Some fault) }
 {
     let count = (bytes.len() + separator.bytes().len()) / separator.piece_size() - 2;
@@ -61,7 +65,9 @@ pub fn count_records(bytes: &[u8], separator: Separator) -> Result<u32, FrameFau
 pub fn check_separators(bytes: &[u8], separator: Separator) -> Result<(), FrameFault>
     requires same { separator ≡ separator_of bytes.now }
     requires few { length bytes.now < 2 ^ 30 }
-    ensures { MatchResult result (λ _. separator_fault bytes.now ≡ None) (λ fault. separator_fault bytes.now ≡ Some fault) }
+    ensures { MatchResult result
+        (λ _. separator_fault bytes.now ≡ None)
+        (λ fault. separator_fault bytes.now ≡ Some fault) }
 {
     let count = bytes.len() / separator.piece_size();
     for i in 0..count {

@@ -26,7 +26,8 @@ pub(crate) fn add(
     esn: u32,
 ) -> Result<EditVerdict, NoMemory>
     requires { guide.old.next < 4_294_967_295 }
-    ensures { (rows : NumberTable) → IsApplied (Edit.Add key.now low high parity esn) guide.old guide.new rows rows result }
+    ensures { let edit = Edit.Add key.now low high parity esn in
+        (rows : NumberTable) → IsApplied edit guide.old guide.new rows rows result }
 {
     if !are_sound_ends(parity, low, high) {
         return Ok(EditVerdict::refused(503));

@@ -47,7 +47,8 @@ pub fn apply_edit<R: RowMover>(
     edit: &Edit,
 ) -> Result<EditVerdict, NoMemory>
     requires { guide.old.next < 4_294_967_295 }
-    ensures applied { IsApplied edit.now guide.old guide.new (R.rows rows.old) (R.rows rows.new) result }
+    ensures applied { let before = R.rows rows.old in
+        IsApplied edit.now guide.old guide.new before (R.rows rows.new) result }
     ensures sound { AreSound guide.old (R.rows rows.old) → AreSound guide.new (R.rows rows.new) }
 {
     carry_out(guide, rows, edit)

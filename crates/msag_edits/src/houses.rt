@@ -13,7 +13,8 @@ use number_table::added;
 /// The range with the difference added to both ends; None where an end is then below 0 or above
 /// 999,999.
 pub(crate) fn shifted(range: &Range, by: i32) -> Option<Range>
-    ensures { result ≡ when (stays_house range.now.low by && stays_house range.now.high by) (shifted range.now by) }
+    ensures { result ≡ when (stays_house range.now.low by && stays_house range.now.high by)
+        (shifted range.now by) }
 {
     Some(Range {
         low: added(range.low, by)?,

@@ -12,11 +12,17 @@ use msag_ranges::Range;
 /// those above it, and the ends of both are sound.
 pub fn parts_of_a_split(range: &Range, at: u32, id: u32, esn: u32)
     requires { HasSoundEnds range.now }
-    ensures empty { (has_empty_part range.now at ≡ true) ↔ (((n : ℕ) → n ≤ at → is_held range.now n ≡ false) ⊎ ((n : ℕ) → at < n → is_held range.now n ≡ false)) }
-    ensures lower { has_empty_part range.now at ≡ false → (n : ℕ) → is_held (lower_part range.now at) n ≡ (is_held range.now n && nat_le n at) }
-    ensures upper { has_empty_part range.now at ≡ false → (n : ℕ) → is_held (upper_part range.now id at esn) n ≡ (is_held range.now n && not (nat_le n at)) }
-    ensures lower_ends { has_empty_part range.now at ≡ false → HasSoundEnds (lower_part range.now at) }
-    ensures upper_ends { has_empty_part range.now at ≡ false → HasSoundEnds (upper_part range.now id at esn) }
+    ensures empty { (has_empty_part range.now at ≡ true)
+        ↔ (((n : ℕ) → n ≤ at → is_held range.now n ≡ false)
+        ⊎ ((n : ℕ) → at < n → is_held range.now n ≡ false)) }
+    ensures lower { has_empty_part range.now at ≡ false → (n : ℕ)
+        → is_held (lower_part range.now at) n ≡ (is_held range.now n && nat_le n at) }
+    ensures upper { has_empty_part range.now at ≡ false → (n : ℕ)
+        → is_held (upper_part range.now id at esn) n ≡ (is_held range.now n && not (nat_le n at)) }
+    ensures lower_ends { has_empty_part range.now at ≡ false
+        → HasSoundEnds (lower_part range.now at) }
+    ensures upper_ends { has_empty_part range.now at ≡ false
+        → HasSoundEnds (upper_part range.now id at esn) }
 {}
 
 /// With a difference that is lawful for it, a range holds each of its numbers with the difference
@@ -25,6 +31,8 @@ pub fn shifted_numbers(range: &Range, by: i32)
     requires even { (is_one_parity range.now.parity && is_odd by) ≡ false }
     requires low { stays_house range.now.low by ≡ true }
     requires high { stays_house range.now.high by ≡ true }
-    ensures each { (n : ℕ) → is_held range.now n ≡ true → is_held (shifted range.now by) (added n by) ≡ true }
-    ensures only { (m : ℕ) → is_held (shifted range.now by) m ≡ true → (n : ℕ) × (is_held range.now n ≡ true) × (m ≡ added n by) }
+    ensures each { (n : ℕ) → is_held range.now n ≡ true
+        → is_held (shifted range.now by) (added n by) ≡ true }
+    ensures only { (m : ℕ) → is_held (shifted range.now by) m ≡ true
+        → (n : ℕ) × (is_held range.now n ≡ true) × (m ≡ added n by) }
 {}

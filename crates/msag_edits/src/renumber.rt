@@ -15,7 +15,8 @@ pub(crate) fn renumber<R: RowMover>(
     id: u32,
     by: i32,
 ) -> EditVerdict
-    ensures { IsApplied (Edit.Renumber id by) guide.old guide.new (R.rows rows.old) (R.rows rows.new) (Ok result) }
+    ensures { let edit = Edit.Renumber id by in
+        IsApplied edit guide.old guide.new (R.rows rows.old) (R.rows rows.new) (Ok result) }
 {
     let Some(range) = live_range(guide, id) else {
         return EditVerdict::refused(501);

@@ -10,7 +10,8 @@ use office_entry::Edit;
 
 /// Removes the range of this id, which no row uses.
 pub(crate) fn retire<R: RowMover>(guide: &mut Guide, rows: &R, id: u32) -> EditVerdict
-    ensures { IsApplied (Edit.Retire id) guide.old guide.new (R.rows rows.now) (R.rows rows.now) (Ok result) }
+    ensures { let edit = Edit.Retire id in
+        IsApplied edit guide.old guide.new (R.rows rows.now) (R.rows rows.now) (Ok result) }
 {
     let Some(range) = live_range(guide, id) else {
         return EditVerdict::refused(501);

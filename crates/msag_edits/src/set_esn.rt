@@ -15,7 +15,8 @@ pub(crate) fn set_esn<R: RowMover>(
     id: u32,
     esn: u32,
 ) -> EditVerdict
-    ensures { IsApplied (Edit.SetEsn id esn) guide.old guide.new (R.rows rows.old) (R.rows rows.new) (Ok result) }
+    ensures { let edit = Edit.SetEsn id esn in
+        IsApplied edit guide.old guide.new (R.rows rows.old) (R.rows rows.new) (Ok result) }
 {
     let Some(range) = live_range(guide, id) else {
         return EditVerdict::refused(501);

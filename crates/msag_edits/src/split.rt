@@ -20,7 +20,8 @@ pub(crate) fn split<R: RowMover>(
     esn: u32,
 ) -> Result<EditVerdict, NoMemory>
     requires { guide.old.next < 4_294_967_295 }
-    ensures { IsApplied (Edit.Split id at esn) guide.old guide.new (R.rows rows.old) (R.rows rows.new) result }
+    ensures { let edit = Edit.Split id at esn in
+        IsApplied edit guide.old guide.new (R.rows rows.old) (R.rows rows.new) result }
 {
     let Some(range) = live_range(guide, id) else {
         return Ok(EditVerdict::refused(501));

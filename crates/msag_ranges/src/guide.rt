@@ -5,7 +5,7 @@ ghost use Rattle.ali_base.specs.StreetKey.{same_key};
 ghost use Rattle.std.specs.Option.{option_copied};
 ghost use Rattle.msag_ranges.specs.StreetGuide.{IsSoundGuide, MayStand, is_other, overlaps, is_between_ends, holds, holder, range_of, nearest_fault, least_overlap, new_range, moved, with_moved, without};
 ghost use Rattle.msag_ranges.specs.declared.range.Range.{Range};
-ghost use Rattle.msag_ranges.specs.GuideChanges.{HasNoRoom};
+ghost use Rattle.msag_ranges.specs.GuideChanges.{HasNoRoom, HasRanges, HasRoom, empty_guide};
 
 use crate::guide_fault::GuideFault;
 use crate::held_numbers::{holds, is_between_ends, same_key};
@@ -29,7 +29,12 @@ impl Model for Guide {
 
     ghost Value = { StreetGuide };
 
-    ghost view = { λ g. record { ranges = g.ranges.items; next = g.next_id; limit = g.limit; spare = min (vec_capacity g.ranges) g.limit - length g.ranges.items } };
+    ghost view = { λ g. record {
+      ranges = g.ranges.items;
+      next = g.next_id;
+      limit = g.limit;
+      spare = min (vec_capacity g.ranges) g.limit - length g.ranges.items;
+    } };
 
     ghost invariant = { λ g. IsSoundGuide g.ranges.items g.next_id g.limit };
 }
@@ -37,7 +42,7 @@ impl Model for Guide {
 impl Guide {
     /// A guide with no ranges, which holds at most `limit` of them.
     pub fn new(alloc: Global, limit: u32) -> Result<Guide, NoMemory>
-        ensures { IfOk result (λ g. g ≡ record { ranges = []; next = 1; limit = limit; spare = g.spare }) }
+        ensures { IfOk result (λ g. g ≡ empty_guide limit g.spare) }
     {
         Ok(Guide {
             ranges: Vec::new(alloc),
@@ -66,7 +71,8 @@ impl Guide {
     pub fn holder_of(&self, key: &StreetKey, n: House) -> Option<&Range>
         ensures value { option_copied result ≡ holder self.now.ranges key.now n }
         // Whichever range holds it is the one.
-        ensures only { (r : Range) → Contains self.now.ranges r → holds r key.now n ≡ true → option_copied result ≡ Some r }
+        ensures only { (r : Range) → Contains self.now.ranges r → holds r key.now n ≡ true
+            → option_copied result ≡ Some r }
     {
         self.first_holder(key, n)
     }
@@ -108,7 +114,7 @@ impl Guide {
     /// Makes room for one more range, so that one `add` cannot fail; nothing else changes. `Full`
     /// comes exactly where the guide holds its limit of ranges.
     pub fn ready(&mut self) -> Result<(), GuideFault>
-        ensures ok { OnOk result ((1 ≤ self.new.spare) × (length self.old.ranges < self.old.limit)) }
+        ensures ok { OnOk result (HasRoom self.old self.new) }
         ensures err { IfErr result (HasNoRoom self.old) }
         ensures kept { self.new ≡ record self.old { spare = self.new.spare } }
         ensures spare { self.old.spare ≤ self.new.spare }
@@ -127,14 +133,12 @@ impl Guide {
     /// id below 4,294,967,295.
     pub fn add(&mut self, key: StreetKey, low: House, high: House, parity: Parity, esn: Esn) -> u32
         requires spare { 1 ≤ self.old.spare }
-        requires stands { MayStand self.old.ranges (new_range self.old.next key low high parity esn) None }
+        requires stands { let range = new_range self.old.next key low high parity esn in
+            MayStand self.old.ranges range None }
         requires ids { self.old.next < 4_294_967_295 }
         ensures id { result ≡ self.old.next }
-        ensures after { self.new ≡ record self.old {
-          ranges = self.old.ranges ++ new_range self.old.next key low high parity esn ∷ [];
-          next = self.old.next + 1;
-          spare = self.new.spare;
-        } }
+        ensures after { let range = new_range self.old.next key low high parity esn in
+            HasRanges self.old self.new (self.old.ranges ++ range ∷ []) (self.old.next + 1) }
         ensures spare { self.old.spare ≤ self.new.spare + 1 }
         ensures sound { IsSoundGuide self.new.ranges self.new.next self.new.limit }
     {
@@ -155,7 +159,7 @@ impl Guide {
     /// Removes the range of this id, which is live. Takes no memory.
     pub fn remove(&mut self, id: u32)
         requires { IsSome (range_of self.old.ranges id) }
-        ensures after { self.new ≡ record self.old { ranges = without self.old.ranges id; spare = self.new.spare } }
+        ensures after { HasRanges self.old self.new (without self.old.ranges id) self.old.next }
         ensures spare { self.old.spare ≤ self.new.spare }
         ensures sound { IsSoundGuide self.new.ranges self.new.next self.new.limit }
     {
@@ -169,7 +173,8 @@ impl Guide {
         requires live { IsSome (range_of self.old.ranges id) }
         requires stands { IfSome (range_of self.old.ranges id)
             (λ r. MayStand self.old.ranges (moved r low high esn) (Some id)) }
-        ensures after { self.new ≡ record self.old { ranges = with_moved self.old.ranges id low high esn; spare = self.new.spare } }
+        ensures after { let ranges = with_moved self.old.ranges id low high esn in
+            HasRanges self.old self.new ranges self.old.next }
         ensures spare { self.old.spare ≤ self.new.spare }
         ensures sound { IsSoundGuide self.new.ranges self.new.next self.new.limit }
     {
@@ -184,7 +189,7 @@ impl Guide {
 
     /// Leaves the guide as `new` made it. Takes no memory.
     pub fn clear(&mut self)
-        ensures after { self.new ≡ record { ranges = []; next = 1; limit = self.old.limit; spare = self.new.spare } }
+        ensures after { self.new ≡ empty_guide self.old.limit self.new.spare }
         ensures spare { self.old.spare ≤ self.new.spare }
     {
         self.ranges.clear();
@@ -201,7 +206,8 @@ impl Guide {
 
     // The first range, other than the one of the id `except`, that overlaps `range`.
     fn first_overlap(&self, range: &Range, except: Option<u32>) -> Option<&Range>
-        ensures value { option_copied result ≡ find (λ r. is_other except r.id && overlaps range.now r) self.now.ranges }
+        ensures value { option_copied result
+            ≡ find (λ r. is_other except r.id && overlaps range.now r) self.now.ranges }
         ensures sound { IsSoundGuide self.now.ranges self.now.next self.now.limit }
     {
         self.ranges
@@ -225,7 +231,8 @@ impl Guide {
 
     // Whether a range of this street has the number between its ends.
     fn has_between_ends(&self, key: &StreetKey, n: House) -> bool
-        ensures { result ≡ list_any (λ r. same_key r.key key.now && is_between_ends r n) self.now.ranges }
+        ensures { result
+            ≡ list_any (λ r. same_key r.key key.now && is_between_ends r n) self.now.ranges }
     {
         self.ranges
             .iter()

@@ -1,10 +1,11 @@
 -- The table of numbers: a finite map from telephone numbers to rows.
-use Rattle.std.specs.Prelude.{ℕ, List, Option, refl}
+use Rattle.std.specs.Prelude.{ℕ, List, Option, Some, refl}
 use Rattle.std.specs.Ordering.{nat_cmp}
 use Rattle.std.specs.Cmp.Lexicographic.{slice_cmp}
 use Rattle.std.specs.declared.cmp.Ordering.{Ordering}
+use Rattle.std.specs.Option.{option_map_or}
 use Rattle.std.specs.Coded.{Coded, code_by, coded_list, coded_ℕ, coded×, coded_option}
-use Rattle.std.specs.FinMap.{FinMap, code, empty}
+use Rattle.std.specs.FinMap.{FinMap, code, empty, get, insert}
 use Rattle.ali_base.specs.CivilDay.{CivilDay}
 use Rattle.number_life.specs.declared.row.Row.{Row}
 
@@ -17,6 +18,11 @@ NumberTable = FinMap tn_cmp Row
 
 abbrev pub no_numbers : NumberTable
 no_numbers = empty
+
+-- the row of a number, where it has one, is unlocked on this day
+abbrev pub with_unlocked : NumberTable → List ℕ → CivilDay → NumberTable
+with_unlocked table tn day =
+    option_map_or (λ row. insert table tn (record row { unlocked = Some day })) (get table tn) table
 
 -- a day is stored as its three numbers
 abbrev pub coded_day : Coded CivilDay

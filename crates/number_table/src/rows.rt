@@ -1,10 +1,10 @@
 //! The table of numbers.
-ghost use Rattle.std.specs.Prelude.{◌≡◌, ◌<◌, ◌≤◌, ◌⊎◌, Some, IsSome, OnOk, OnErr, length, filter, find};
-ghost use Rattle.std.specs.Option.{option_copied, option_map, option_map_or};
+ghost use Rattle.std.specs.Prelude.{◌≡◌, ◌<◌, ◌≤◌, ◌⊎◌, IsSome, OnOk, OnErr, length, filter, find};
+ghost use Rattle.std.specs.Option.{option_copied, option_map};
 ghost use Rattle.std.specs.BTreeMap.{IsOrdered, values};
 ghost use Rattle.std.specs.Map.Iter.{deref_pair};
 ghost use Rattle.std.specs.FinMap as map;
-ghost use Rattle.number_table.specs.NumberTable.{tn_cmp, no_numbers};
+ghost use Rattle.number_table.specs.NumberTable.{tn_cmp, no_numbers, with_unlocked};
 ghost use Rattle.number_table.specs.HeldRows.{holds_row, count_held};
 
 use crate::row_changes::{is_held, set_row_esn, shift_row};
@@ -48,7 +48,8 @@ fn count_in(by_tn: &BTreeMap<Tn, Row>, r: &Range) -> usize
 
 // The first entry whose row the range holds.
 fn first_in<'a>(by_tn: &'a BTreeMap<Tn, Row>, r: &Range) -> Option<(&'a Tn, &'a Row)>
-    ensures value { option_map deref_pair result ≡ find (λ e. holds_row r.now e.1) by_tn.now.entries }
+    ensures value { option_map deref_pair result
+        ≡ find (λ e. holds_row r.now e.1) by_tn.now.entries }
     ensures ordered { IsOrdered tn_cmp by_tn.now }
 {
     by_tn.iter().find(|(_, row)| is_held(row, r))
@@ -111,7 +112,7 @@ impl Rows {
 
     /// Unlocks the row of the number, if there is one, on this day.
     pub fn unlock(&mut self, tn: Tn, day: Day)
-        ensures { self.new ≡ option_map_or (λ row. map.insert self.old tn (record row { unlocked = Some day })) (map.get self.old tn) self.old }
+        ensures { self.new ≡ with_unlocked self.old tn day }
     {
         if let Some(row) = self.by_tn.get_mut(&tn) {
             row.unlocked = Some(day);

@@ -88,7 +88,8 @@ impl Edit {
         // What is read has these bytes.
         ensures found { IfSome result (λ edit. IsEdit edit × (bytes.now ≡ edit_bytes edit)) }
         // The bytes of an edit are read as this edit.
-        ensures only { (edit : AnyEdit) → IsEdit edit → bytes.now ≡ edit_bytes edit → result ≡ Some edit }
+        ensures only { (edit : AnyEdit) → IsEdit edit → bytes.now ≡ edit_bytes edit
+            → result ≡ Some edit }
         // The same by the reader.
         ensures exact { result ≡ edit_from bytes.now }
     {

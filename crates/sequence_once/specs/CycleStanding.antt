@@ -1,5 +1,5 @@
 -- What a carrier's file is to the kept cycles, by its company, its cycle and the digest of its bytes.
-use Rattle.std.specs.Prelude.{ℕ, ◌+◌, ◌==◌, ◌&&◌, ◌||◌, Bool, not, nat_lt, nat_le, List, [], ◌∷◌, length, find, Option, Some, None, Result, Ok, Err, if◌then◌else◌}
+use Rattle.std.specs.Prelude.{◌≡◌, ℕ, ◌+◌, ◌<◌, ◌==◌, ◌&&◌, ◌||◌, Bool, not, nat_lt, nat_le, List, [], ◌∷◌, length, find, Option, Some, None, Result, Ok, Err, ◌↔◌, if◌then◌else◌}
 use Rattle.std.specs.Str.{bytes_eq}
 use Rattle.sequence_once.specs.KeptCycles.{CycleRecord, CyclesState, of_company, newest, is_finished, is_last_finished, is_known, known_companies}
 use Rattle.sequence_once.specs.declared.standing.Standing.{Standing}
@@ -53,6 +53,11 @@ standing_among cycles full limit cycle digest =
     else (if is_beyond (newest cycles) cycle
     then Err (Gap (due_number (newest cycles)))
     else earlier (find (λ k. k.cycle == cycle) cycles) (oldest_number cycles) digest)
+
+-- the file is too old exactly where its cycle is below the company's oldest kept
+abbrev pub IsTooOld : CyclesState → List ℕ → ℕ → Result Standing CycleFault → Type 0
+IsTooOld s company cycle answer =
+    let oldest = oldest_number (of_company company s.kept) in (answer ≡ Err (TooOld oldest)) ↔ (cycle < oldest)
 
 -- the standing of a file
 unfoldable pub standing_of : CyclesState → List ℕ → ℕ → List ℕ → Result Standing CycleFault

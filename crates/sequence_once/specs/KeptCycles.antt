@@ -1,5 +1,5 @@
 -- The kept cycles of carriers' files, as one list in the order of company and cycle.
-use Rattle.std.specs.Prelude.{◌≡◌, ℕ, ◌+◌, ◌-◌, ◌≤◌, ◌==◌, Bool, true, not, List, [], ◌∷◌, ◌++◌, length, drop, filter, slice_get, All, find, option_map, Option, Some, None, if◌then◌else◌}
+use Rattle.std.specs.Prelude.{◌≡◌, ◌≢◌, ℕ, ◌+◌, ◌-◌, ◌≤◌, ◌==◌, Bool, true, not, List, [], ◌∷◌, ◌++◌, length, drop, filter, slice_get, All, find, option_map, Option, Some, None, if◌then◌else◌}
 use Rattle.std.specs.declared.cmp.Ordering.{Ordering}
 use Rattle.std.specs.Ordering.{ordering_then, nat_cmp, is_lt, is_eq, is_gt}
 use Rattle.std.specs.Cmp.Lexicographic.{slice_cmp}
@@ -84,6 +84,10 @@ note_last code (k ∷ j ∷ rest) = k ∷ note_last code (j ∷ rest)
 -- after a line: its code is noted under the company's last cycle
 unfoldable pub after_note : CyclesState → List ℕ → ℕ → CyclesState
 after_note s company code = record s { kept = with_company company (note_last code (of_company company s.kept)) s.kept }
+
+-- the other companies' cycles stay
+abbrev pub OthersStay : List ℕ → CyclesState → CyclesState → Type 0
+OthersStay company s later = (other : List ℕ) → other ≢ company → of_company other later.kept ≡ of_company other s.kept
 
 -- the codes of a company's cycle, where it is kept
 abbrev pub codes_of : List ℕ → ℕ → List CycleRecord → Option (List ℕ)

@@ -1,9 +1,9 @@
 -- What a guide edit is to its editor's last one, by its serial and the digest of its bytes.
-use Rattle.std.specs.Prelude.{◌≡◌, ℕ, ◌+◌, ◌-◌, ◌==◌, nat_lt, List, [], length, get_or, set, replicate, Option, Some, None, Result, Ok, Err, if◌then◌else◌}
+use Rattle.std.specs.Prelude.{◌≡◌, ◌≢◌, ℕ, ◌+◌, ◌-◌, ◌<◌, ◌==◌, nat_lt, List, [], length, get_or, set, replicate, Option, Some, None, Result, Ok, Err, ◌↔◌, if◌then◌else◌}
 use Rattle.std.specs.List.{All}
 use Rattle.std.specs.Str.{bytes_eq}
 use Rattle.std.specs.Borrow.{Bor}
-use Rattle.ali_base.specs.Editors.{IsSerial}
+use Rattle.ali_base.specs.Editors.{IsEditor, IsSerial}
 use Rattle.ali_base.specs.declared.editor.TheConstants.{EDITORS}
 use Rattle.sequence_once.specs.declared.standing.Standing.{Standing}
 use Rattle.sequence_once.specs.declared.standing.Standing.TheVariants.{New, Complete}
@@ -16,6 +16,10 @@ pub record EditRecord : Type 0 where
   pub digest : List ℕ
   pub code : ℕ
   pub detail : ℕ
+
+-- an edit with this serial and this digest, and what it was answered
+abbrev pub answered_edit : ℕ → List ℕ → ℕ → ℕ → EditRecord
+answered_edit serial digest code detail = record { serial = serial; digest = digest; code = code; detail = detail }
 
 -- nothing, or an edit with a serial in range
 abbrev pub HasSerial : Option EditRecord → Type 0
@@ -59,11 +63,23 @@ serial_standing (Some e) serial digest =
     then serial_repeated e digest
     else (if nat_lt serial e.serial then Err (TooOld e.serial) else Err (Gap (e.serial + 1))))
 
+-- each answer on an edit comes exactly where its cause holds: the serial is the one after the last; it is the last one, with its digest or with another; it is smaller; it is greater than the one that is due
+pub record HasCauses (last : Option EditRecord) (serial : ℕ) (digest : List ℕ) (answer : Result Standing CycleFault) : Type 0 where
+  pub new : (answer ≡ Ok New) ↔ (serial ≡ last_serial last + 1)
+  pub complete : (answer ≡ Ok Complete) ↔ ((serial ≡ last_serial last) × (digest ≡ last_digest last))
+  pub differs : (answer ≡ Err (Differs (last_digest last) digest)) ↔ ((serial ≡ last_serial last) × (digest ≢ last_digest last))
+  pub too_old : (answer ≡ Err (TooOld (last_serial last))) ↔ (serial < last_serial last)
+  pub gap : (answer ≡ Err (Gap (last_serial last + 1))) ↔ (last_serial last + 1 < serial)
+
+-- the other editors' last edits stay
+abbrev pub OthersStay : ℕ → List (Option EditRecord) → List (Option EditRecord) → Type 0
+OthersStay editor old new = (other : ℕ) → IsEditor other → other ≢ editor → last_edit other new ≡ last_edit other old
+
 -- after an edit: it is its editor's last
 abbrev pub after_serial : List (Option EditRecord) → ℕ → ℕ → List ℕ → ℕ → ℕ → List (Option EditRecord)
 after_serial edits editor serial digest code detail =
-    set edits (editor - 1) (Some (record { serial = serial; digest = digest; code = code; detail = detail }))
+    set edits (editor - 1) (Some (answered_edit serial digest code detail))
 
 -- what a kept edit that is shown says
-abbrev pub edit_record : ℕ × Bor (List ℕ) × ℕ × ℕ → EditRecord
-edit_record shown = record { serial = shown.0; digest = shown.1.now; code = shown.2; detail = shown.3 }
+abbrev pub edit_record_of : ℕ × Bor (List ℕ) × ℕ × ℕ → EditRecord
+edit_record_of shown = answered_edit shown.0 shown.1.now shown.2 shown.3

@@ -23,9 +23,16 @@ impl Model for CycleRecord {
 
     ghost Value = { CycleRecord };
 
-    ghost view = { λ k. record { company = k.company; cycle = k.cycle; count = k.count; digest = k.digest; codes = k.codes.items } };
+    ghost view = { λ k. record {
+      company = k.company;
+      cycle = k.cycle;
+      count = k.count;
+      digest = k.digest;
+      codes = k.codes.items;
+    } };
 
-    ghost invariant = { λ k. (length k.codes.items ≤ k.count) × (k.count ≤ vec_capacity k.codes) };
+    ghost invariant = { λ k. (length k.codes.items ≤ k.count)
+        × (k.count ≤ vec_capacity k.codes) };
 }
 
 impl CycleRecord {

@@ -1,11 +1,10 @@
 //! The kept cycles of all companies.
 ghost use Rattle.std.specs.Prelude.{◌≡◌, ◌≢◌, ℕ, List, ◌+◌, ◌-◌, ◌^◌, ◌<◌, ◌≤◌, ◌==◌, [], length, false, find, insert, remove, slice_get, slice_range, option_map, IfOk, OnOk, OnErr, Some, Ok, Err, ◌↔◌, if◌then◌else◌};
 ghost use Rattle.std.specs.Option.{option_copied};
-ghost use Rattle.sequence_once.specs.KeptCycles.{IsSound, of_company, before_company, newest, last_of, is_last_finished, opened, after_open, after_note, codes_of, count_of};
-ghost use Rattle.sequence_once.specs.CycleStanding.{last_number, oldest_number, is_full, repeated, standing_among, standing_of};
+ghost use Rattle.sequence_once.specs.KeptCycles.{IsSound, OthersStay, of_company, before_company, newest, last_of, is_last_finished, opened, after_open, after_note, codes_of, count_of};
+ghost use Rattle.sequence_once.specs.CycleStanding.{IsTooOld, last_number, oldest_number, is_full, repeated, standing_among, standing_of};
 ghost use Rattle.sequence_once.specs.CycleReaders.{last_shown, record_of};
 ghost use Rattle.sequence_once.specs.declared.standing.Standing.TheVariants.{New};
-ghost use Rattle.sequence_once.specs.declared.standing.CycleFault.TheVariants.{TooOld};
 
 use crate::cycle_record::CycleRecord;
 use crate::kept::{KeptCycle, Last};
@@ -34,7 +33,8 @@ impl Model for Cycles {
 
     ghost view = { λ c. record { kept = c.kept.items; limit = c.companies } };
 
-    ghost invariant = { λ c. IsSound (record { kept = c.kept.items; limit = c.companies }) × (c.known ≡ known_companies c.kept.items) };
+    ghost invariant = { λ c. IsSound (record { kept = c.kept.items; limit = c.companies })
+        × (c.known ≡ known_companies c.kept.items) };
 }
 
 impl Cycles {
@@ -64,7 +64,7 @@ impl Cycles {
         digest: &[u8; 32],
     ) -> Result<Standing, CycleFault>
         ensures table { result ≡ standing_of self.now company cycle digest.now }
-        ensures too_old { let oldest = oldest_number (of_company company self.now.kept) in (result ≡ Err (TooOld oldest)) ↔ (cycle < oldest) }
+        ensures too_old { IsTooOld self.now company cycle result }
         ensures sound { IsSound self.now }
     {
         let full = self.is_full(company);
@@ -86,9 +86,11 @@ impl Cycles {
         digest: &[u8; 32],
     ) -> Result<(), NoMemory>
         requires { standing_of self.old company cycle digest.now ≡ Ok New }
-        ensures opened { OnOk result (self.new ≡ after_open self.old company cycle count digest.now) }
-        ensures last { OnOk result (last_of company self.new.kept ≡ Some (opened company cycle count digest.now)) }
-        ensures others { OnOk result ((other : List ℕ) → other ≢ company → of_company other self.new.kept ≡ of_company other self.old.kept) }
+        ensures opened { OnOk result
+            (self.new ≡ after_open self.old company cycle count digest.now) }
+        ensures last { OnOk result
+            (last_of company self.new.kept ≡ Some (opened company cycle count digest.now)) }
+        ensures others { OnOk result (OthersStay company self.old self.new) }
         ensures sound { OnOk result (IsSound self.new) }
         ensures unchanged { OnErr result (self.new ≡ self.old) }
     {
@@ -103,7 +105,7 @@ impl Cycles {
     pub fn note(&mut self, company: Company, code: u16)
         requires { is_last_finished (last_of company self.old.kept) ≡ false }
         ensures noted { self.new ≡ after_note self.old company code }
-        ensures others { (other : List ℕ) → other ≢ company → of_company other self.new.kept ≡ of_company other self.old.kept }
+        ensures others { OthersStay company self.old self.new }
         ensures sound { IsSound self.new }
     {
         let (_, to) = self.span(company);
@@ -166,7 +168,8 @@ impl Cycles {
     // Where the cycles of the company begin and end, or would stand.
     fn span(&self, company: Company) -> (usize, usize)
         ensures from { result.0 ≡ length (before_company company self.now.kept) }
-        ensures to { result.1 ≡ length (before_company company self.now.kept) + length (of_company company self.now.kept) }
+        ensures to { result.1 ≡ length (before_company company self.now.kept)
+            + length (of_company company self.now.kept) }
         ensures within { result.1 ≤ length self.now.kept }
         ensures sound { IsSound self.now }
     {
@@ -302,7 +305,9 @@ fn put_cycle(
 ) -> Result<(), NoMemory>
     requires order { from ≤ to }
     requires within { to ≤ length kept.old.items }
-    ensures put { OnOk result (kept.new.items ≡ (if to - from == KEPT_CYCLES then remove (insert kept.old.items to fresh) from else insert kept.old.items to fresh)) }
+    ensures put { OnOk result (kept.new.items ≡ (if to - from == KEPT_CYCLES
+        then remove (insert kept.old.items to fresh) from
+        else insert kept.old.items to fresh)) }
     ensures unchanged { OnErr result (kept.new.items ≡ kept.old.items) }
 {
     if kept.insert(to, fresh).is_err() {

@@ -1,5 +1,6 @@
 //! The last edit of one editor.
 ghost use Rattle.std.specs.Prelude.{◌≡◌};
+ghost use Rattle.sequence_once.specs.SerialStanding.{answered_edit};
 
 use std::marker::Model;
 
@@ -13,19 +14,24 @@ pub struct EditRecord {
 }
 
 impl Model for EditRecord {
-    ghost use Rattle.sequence_once.specs.SerialStanding.{EditRecord};
+    ghost use Rattle.sequence_once.specs.SerialStanding.{EditRecord, answered_edit};
 
     ghost Value = { EditRecord };
 
-    ghost view = { λ e. record { serial = e.serial; digest = e.digest; code = e.code; detail = e.detail } };
+    ghost view = { λ e. answered_edit e.serial e.digest e.code e.detail };
 
-    ghost inverse = { λ e. record { serial = e.serial; digest = e.digest; code = e.code; detail = e.detail } };
+    ghost inverse = { λ e. record {
+      serial = e.serial;
+      digest = e.digest;
+      code = e.code;
+      detail = e.detail;
+    } };
 }
 
 impl EditRecord {
     /// An edit with this serial, the digest of its bytes, and the code and the detail of its answer.
     pub fn new(serial: u32, digest: &[u8; 32], code: u16, detail: u64) -> Self
-        ensures { result ≡ record { serial = serial; digest = digest.now; code = code; detail = detail } }
+        ensures { result ≡ answered_edit serial digest.now code detail }
     {
         EditRecord {
             serial,

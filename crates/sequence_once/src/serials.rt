@@ -1,10 +1,9 @@
 //! The last edits of all editors.
-ghost use Rattle.std.specs.Prelude.{◌≡◌, ◌≢◌, ℕ, ◌+◌, ◌<◌, option_map, IfOk, Some, Ok, Err, ◌↔◌};
+ghost use Rattle.std.specs.Prelude.{◌≡◌, option_map, IfOk, Some, Ok};
 ghost use Rattle.std.specs.Option.{option_copied};
 ghost use Rattle.ali_base.specs.Editors.{IsEditor, IsSerial};
-ghost use Rattle.sequence_once.specs.SerialStanding.{EditRecord, AreKeptEdits, no_edits, last_edit, last_serial, last_digest, serial_repeated, serial_standing, after_serial, edit_record};
-ghost use Rattle.sequence_once.specs.declared.standing.Standing.TheVariants.{New, Complete};
-ghost use Rattle.sequence_once.specs.declared.standing.CycleFault.TheVariants.{Gap, Differs, TooOld};
+ghost use Rattle.sequence_once.specs.SerialStanding.{AreKeptEdits, HasCauses, OthersStay, no_edits, last_edit, serial_repeated, serial_standing, after_serial, answered_edit, edit_record_of};
+ghost use Rattle.sequence_once.specs.declared.standing.Standing.TheVariants.{New};
 
 use crate::edit_record::EditRecord;
 use crate::standing::{CycleFault, Standing};
@@ -55,11 +54,7 @@ impl Serials {
         requires editor { IsEditor editor }
         requires serial { IsSerial serial }
         ensures table { result ≡ serial_standing (last_edit editor self.now) serial digest.now }
-        ensures new { let last = last_edit editor self.now in (result ≡ Ok New) ↔ (serial ≡ last_serial last + 1) }
-        ensures complete { let last = last_edit editor self.now in (result ≡ Ok Complete) ↔ ((serial ≡ last_serial last) × (digest.now ≡ last_digest last)) }
-        ensures differs { let last = last_edit editor self.now in (result ≡ Err (Differs (last_digest last) digest.now)) ↔ ((serial ≡ last_serial last) × (digest.now ≢ last_digest last)) }
-        ensures too_old { let last = last_edit editor self.now in (result ≡ Err (TooOld (last_serial last))) ↔ (serial < last_serial last) }
-        ensures gap { let last = last_edit editor self.now in (result ≡ Err (Gap (last_serial last + 1))) ↔ (last_serial last + 1 < serial) }
+        ensures causes { HasCauses (last_edit editor self.now) serial digest.now result }
         ensures sound { AreKeptEdits self.now }
     {
         standing_after(self.last(editor), serial, digest)
@@ -72,8 +67,9 @@ impl Serials {
         requires serial { IsSerial serial }
         requires due { serial_standing (last_edit editor self.old) serial digest.now ≡ Ok New }
         ensures noted { self.new ≡ after_serial self.old editor serial digest.now code detail }
-        ensures last { last_edit editor self.new ≡ Some (record { serial = serial; digest = digest.now; code = code; detail = detail }) }
-        ensures others { (other : ℕ) → IsEditor other → other ≢ editor → last_edit other self.new ≡ last_edit other self.old }
+        ensures last { let edit = answered_edit serial digest.now code detail in
+            last_edit editor self.new ≡ Some edit }
+        ensures others { OthersStay editor self.old self.new }
         ensures sound { AreKeptEdits self.new }
     {
         self.edits[editor as usize - 1] = Some(EditRecord::new(serial, digest, code, detail));
@@ -82,7 +78,7 @@ impl Serials {
     /// The last serial of an editor, with the digest, the code and the detail of its edit.
     pub fn kept(&self, editor: u8) -> Option<(u32, &[u8; 32], u16, u64)>
         requires { IsEditor editor }
-        ensures same { option_map edit_record result ≡ last_edit editor self.now }
+        ensures same { option_map edit_record_of result ≡ last_edit editor self.now }
         ensures sound { AreKeptEdits self.now }
     {
         let edit = self.last(editor)?;

@@ -6,5 +6,6 @@ ghost use Rattle.text_line.specs.WordReading.{number_of};
 /// What is read as a number is its decimal text, and the decimal text of a number below 2^32 is read as
 /// it.
 pub fn numbers_are_read_as_spelled()
-    ensures { (bytes : List ℕ) (n : ℕ) → (number_of bytes ≡ Some n) ↔ ((bytes ≡ decimal n) × (n < 2 ^ 32)) }
+    ensures { (bytes : List ℕ) (n : ℕ) → (number_of bytes ≡ Some n)
+        ↔ ((bytes ≡ decimal n) × (n < 2 ^ 32)) }
 {}
