@@ -5,14 +5,14 @@ use Rattle.crash_disk.specs.CallRecord.{DiskCall, Wrote}
 use Rattle.crash_disk.specs.CrashImages.{up_to_sync, since_sync}
 use Rattle.crash_disk.specs.Recording.{told, recorded, piece_end, is_sync, AllWithin}
 use Rattle.crash_disk.specs.declared.calls.Call.{Call}
-use Rattle.crash_disk.specs.declared.calls.Call.TheVariants as Kept
+use Rattle.crash_disk.specs.declared.calls.Call.TheVariants as Stored
 
 -- pieces of later calls play no part
 told_before : (pieces more : List ℕ) (call : Call) → piece_end call ≤ length pieces → told (pieces ++ more) call ≡ told pieces call
-told_before pieces more Kept.Looked within = refl
-told_before pieces more (Kept.Wrote at from count done) within =
+told_before pieces more Stored.Looked within = refl
+told_before pieces more (Stored.Wrote at from count done) within =
     ap (λ l. Wrote at l done) (ap (λ l. take count l) (drop-append-le from pieces more (omega (arith, within))) ∙ take-append-le count (drop from pieces) more (omega (arith, within, length-drop from pieces)))
-told_before pieces more Kept.Synced within = refl
+told_before pieces more Stored.Synced within = refl
 
 all_told_before : (pieces more : List ℕ) (calls : List Call) → AllWithin (length pieces) calls → map (told (pieces ++ more)) calls ≡ map (told pieces) calls
 all_told_before pieces more [] within = refl
@@ -27,9 +27,9 @@ recorded_more pieces calls call = ap reverse (map-append (told pieces) calls (ca
 
 -- a write, of which the piece stands behind the others
 pub recorded_write : (pieces piece : List ℕ) (calls : List Call) (at from : ℕ) (done : Bool) → AllWithin (length pieces) calls → from ≡ length pieces
-    → recorded (pieces ++ piece) (calls ++ Kept.Wrote at from (length piece) done ∷ []) ≡ Wrote at piece done ∷ recorded pieces calls
+    → recorded (pieces ++ piece) (calls ++ Stored.Wrote at from (length piece) done ∷ []) ≡ Wrote at piece done ∷ recorded pieces calls
 recorded_write pieces piece calls at from done within is =
-    recorded_more (pieces ++ piece) calls (Kept.Wrote at from (length piece) done)
+    recorded_more (pieces ++ piece) calls (Stored.Wrote at from (length piece) done)
     ∙ (λ i. Wrote at (own i) done ∷ reverse (all_told_before pieces piece calls within i))
   where
     own : take (length piece) (drop from (pieces ++ piece)) ≡ piece
@@ -48,21 +48,21 @@ recorded_next pieces n calls d within = ap (recorded pieces) (take_more calls n 
 
 -- the last sync, looked for from the newest call on
 pub up_to_here : (pieces : List ℕ) (call : Call) (earlier : List DiskCall) → is_sync call ≡ true → up_to_sync (told pieces call ∷ earlier) ≡ told pieces call ∷ earlier
-up_to_here pieces Kept.Looked earlier is = absurd (cc)
-up_to_here pieces (Kept.Wrote at from count done) earlier is = absurd (cc)
-up_to_here pieces Kept.Synced earlier is = refl
+up_to_here pieces Stored.Looked earlier is = absurd (cc)
+up_to_here pieces (Stored.Wrote at from count done) earlier is = absurd (cc)
+up_to_here pieces Stored.Synced earlier is = refl
 
 pub since_here : (pieces : List ℕ) (call : Call) (earlier : List DiskCall) → is_sync call ≡ true → since_sync (told pieces call ∷ earlier) ≡ []
-since_here pieces Kept.Looked earlier is = absurd (cc)
-since_here pieces (Kept.Wrote at from count done) earlier is = absurd (cc)
-since_here pieces Kept.Synced earlier is = refl
+since_here pieces Stored.Looked earlier is = absurd (cc)
+since_here pieces (Stored.Wrote at from count done) earlier is = absurd (cc)
+since_here pieces Stored.Synced earlier is = refl
 
 pub up_to_before : (pieces : List ℕ) (call : Call) (earlier : List DiskCall) → is_sync call ≡ false → up_to_sync (told pieces call ∷ earlier) ≡ up_to_sync earlier
-up_to_before pieces Kept.Looked earlier is = refl
-up_to_before pieces (Kept.Wrote at from count done) earlier is = refl
-up_to_before pieces Kept.Synced earlier is = absurd (cc)
+up_to_before pieces Stored.Looked earlier is = refl
+up_to_before pieces (Stored.Wrote at from count done) earlier is = refl
+up_to_before pieces Stored.Synced earlier is = absurd (cc)
 
 pub since_before : (pieces : List ℕ) (call : Call) (earlier : List DiskCall) → is_sync call ≡ false → since_sync (told pieces call ∷ earlier) ≡ told pieces call ∷ since_sync earlier
-since_before pieces Kept.Looked earlier is = refl
-since_before pieces (Kept.Wrote at from count done) earlier is = refl
-since_before pieces Kept.Synced earlier is = absurd (cc)
+since_before pieces Stored.Looked earlier is = refl
+since_before pieces (Stored.Wrote at from count done) earlier is = refl
+since_before pieces Stored.Synced earlier is = absurd (cc)

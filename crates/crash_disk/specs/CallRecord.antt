@@ -1,13 +1,18 @@
 -- The record of a disk's calls, the newest first: what a read gives after them, and what a crash may leave.
-use Rattle.std.specs.Prelude.{◌≡◌, ◌⊎◌, ℕ, ◌≤◌, Bool, true, false, List, [], ◌∷◌, length, Some}
+use Rattle.std.specs.Prelude.{◌≡◌, ◌⊎◌, ℕ, ◌+◌, ◌≤◌, Bool, true, false, List, [], ◌∷◌, length, Some}
 use Rattle.crash_disk.specs.DiskState.{DiskState}
 use Rattle.crash_disk.specs.CrashOutcomes.{Torn, written}
+use Rattle.crash_disk.specs.declared.calls.TheConstants.{CALL_COST}
 
 -- a call: one that changed nothing, a write of a piece at a place that was done or failed, or a sync
 pub data DiskCall : Type 0 where
   Looked : DiskCall
   Wrote : (at : ℕ) (piece : List ℕ) (done : Bool) → DiskCall
   Synced : DiskCall
+
+-- what a call with a piece of so many bytes takes of the record's room
+abbrev pub cost : ℕ → ℕ
+cost count = CALL_COST + count
 
 -- what a read gives after these calls on a disk that held these bytes
 abbrev pub content : List ℕ → List DiskCall → List ℕ

@@ -3,8 +3,7 @@ use Rattle.std.specs.Prelude.{ℕ, ◌+◌, ◌-◌, ◌==◌, ◌||◌, Bool, n
 use Rattle.std.specs.List.{list_any}
 use Rattle.ali_base.specs.Faults.{one_more}
 use Rattle.crash_disk.specs.DiskState.{DiskState}
-use Rattle.crash_disk.specs.CallRecord.{DiskCall, Looked, Wrote, Synced, content, recorded_state}
-use Rattle.crash_disk.specs.Recording.{cost}
+use Rattle.crash_disk.specs.CallRecord.{DiskCall, Looked, Wrote, Synced, cost, content, recorded_state}
 use Rattle.crash_disk.specs.CrashImages.{crash_image}
 use Rattle.crash_disk.specs.declared.kept.Kept.{Kept}
 

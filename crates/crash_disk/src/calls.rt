@@ -2,9 +2,12 @@
 ghost use Rattle.std.specs.Prelude.{◌≡◌, ◌≤◌, [], ◌∷◌, length, vec_capacity};
 ghost use Rattle.crash_disk.specs.CallRecord.{content};
 ghost use Rattle.crash_disk.specs.CrashImages.{filled};
-ghost use Rattle.crash_disk.specs.Recording.{recorded, told, piece_end, is_sync, AllWithin, IsSyncPlace};
+ghost use Rattle.crash_disk.specs.Recording.{recorded, told, piece_end, is_sync, AllWithin, IsLastSync};
 
 use crate::image::{fill_over, write_over};
+
+/// What a call takes of the record's room, beside the bytes of its piece.
+pub const CALL_COST: usize = 32;
 
 /// What a call did to the bytes.
 #[derive(Clone, Copy, Debug, PartialEq, Eq)]
@@ -87,7 +90,7 @@ fn fill_call(call: &Call, pieces: &[u8], byte: u8, bytes: &mut Vec<u8>)
 
 /// How many calls there are up to the last sync.
 pub fn synced_count(calls: &[Call]) -> usize
-    ensures { IsSyncPlace calls.now result }
+    ensures { IsLastSync calls.now result }
 {
     let mut count = calls.len();
     while count > 0 {

@@ -1,9 +1,9 @@
 //! The record of a disk's calls.
 ghost use Rattle.std.specs.Prelude.{◌≡◌, ◌≤◌, [], length, nat_le, IfOk};
-ghost use Rattle.crash_disk.specs.CallRecord.{Looked, Wrote, Synced};
-ghost use Rattle.crash_disk.specs.Recording.{cost, with_call};
+ghost use Rattle.crash_disk.specs.CallRecord.{Looked, Wrote, Synced, cost};
+ghost use Rattle.crash_disk.specs.Recording.{with_call};
 
-use crate::calls::{Call, fill, replay, synced_count};
+use crate::calls::{CALL_COST, Call, fill, replay, synced_count};
 use crate::image::append;
 use ali_base::NoMemory;
 use std::alloc::Global;
@@ -20,6 +20,7 @@ pub struct Record {
 
 impl Model for Record {
     ghost use Rattle.std.specs.Prelude.{◌+◌, ◌*◌, ◌<◌, ◌≤◌, length, vec_capacity};
+    ghost use Rattle.crash_disk.specs.declared.calls.TheConstants.{CALL_COST};
     ghost use Rattle.crash_disk.specs.Recording.{RecordState, recorded, AllWithin};
 
     ghost Value = { RecordState };
@@ -30,8 +31,8 @@ impl Model for Record {
       left = r.left;
     } };
 
-    ghost invariant = { λ r. (32 * length r.calls.items + length r.pieces.items + r.left ≤ r.room)
-        × (r.room < 32 * (vec_capacity r.calls + 1)) × (r.room ≤ vec_capacity r.pieces)
+    ghost invariant = { λ r. (CALL_COST * length r.calls.items + length r.pieces.items + r.left ≤ r.room)
+        × (r.room < CALL_COST * (vec_capacity r.calls + 1)) × (r.room ≤ vec_capacity r.pieces)
         × AllWithin (length r.pieces.items) r.calls.items };
 }
 
@@ -41,7 +42,7 @@ impl Record {
         ensures { IfOk result (λ r. r ≡ record { calls = []; room = room; left = room }) }
     {
         Ok(Record {
-            calls: Vec::with_capacity(alloc, room / 32)?,
+            calls: Vec::with_capacity(alloc, room / CALL_COST)?,
             pieces: Vec::with_capacity(alloc, room)?,
             room,
             left: room,
@@ -59,25 +60,25 @@ impl Record {
     pub fn has_room(&self, count: usize) -> bool
         ensures { result ≡ nat_le (cost count) self.now.left }
     {
-        32 <= self.left && count <= self.left - 32
+        CALL_COST <= self.left && count <= self.left - CALL_COST
     }
 
     /// Records a call that changed nothing.
     pub fn look(&mut self)
-        requires { 32 ≤ self.old.left }
+        requires { cost 0 ≤ self.old.left }
         ensures { self.new ≡ with_call self.old 0 Looked }
     {
         self.calls.push_reserved(Call::Looked);
-        self.left -= 32;
+        self.left -= CALL_COST;
     }
 
     /// Records a sync.
     pub fn sync(&mut self)
-        requires { 32 ≤ self.old.left }
+        requires { cost 0 ≤ self.old.left }
         ensures { self.new ≡ with_call self.old 0 Synced }
     {
         self.calls.push_reserved(Call::Synced);
-        self.left -= 32;
+        self.left -= CALL_COST;
     }
 
     /// Records a write, which was done or failed.
@@ -92,7 +93,7 @@ impl Record {
             done,
         });
         append(&mut self.pieces, piece);
-        self.left -= 32 + piece.len();
+        self.left -= CALL_COST + piece.len();
     }
 }
 
