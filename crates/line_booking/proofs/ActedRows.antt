@@ -6,7 +6,6 @@ use Rattle.std.specs.Str.{bytes_eq}
 use Rattle.std.proofs.lemmas.Cmp.{nat_list_cmp_total}
 use Rattle.std.proofs.lemmas.Map.Text.{is_eq-slice_cmp}
 use Rattle.std.proofs.lemmas.Slice.Eq.{bytes_eq-Decides}
-use Rattle.ali_base.specs.CivilDay.{CivilDay}
 use Rattle.ali_record.specs.Layout.{field_of}
 use Rattle.ali_record.specs.declared.field.Field.TheVariants as field
 use Rattle.msag_ranges.specs.declared.range.Range.{Range}

@@ -1,6 +1,5 @@
 -- What it says of a record that it is read, and that something is done with it.
-use Rattle.std.proofs.Common.{◌≡◌, ℕ, ◌≤◌, ◌==◌, ◌&&◌, nat_lt, nat_le, Bool, true, false, cond, List, [], ◌∷◌, length, refl, ap, sym, ◌∙◌, arith, Option, Some, None, is_none, IsSome, Result, Ok, Err, get_or}
-use Rattle.std.specs.List.{AllByRecursion, list_all}
+use Rattle.std.proofs.Common.{◌≡◌, ℕ, ◌≤◌, ◌==◌, ◌&&◌, nat_lt, nat_le, Bool, true, false, cond, List, length, refl, ap, sym, ◌∙◌, arith, Option, Some, None, is_none, IsSome, Result, Ok, Err, get_or}
 use Rattle.std.specs.FinMap.{get, len}
 use Rattle.std.proofs.lemmas.Bool.{not-false}
 use Rattle.std.proofs.lemmas.Bool.Decides.{nat_tests}

@@ -10,7 +10,7 @@ use Rattle.ali_record.specs.Functions.{function_of}
 use Rattle.ali_record.specs.Layout.{field_of, byte_of}
 use Rattle.ali_record.specs.RecordReading.{is_function, sends_address}
 use Rattle.ali_record.specs.declared.field.Field.TheVariants as field
-use Rattle.msag_edits.specs.GuideSoundness.{IsPlaced, ArePlaced, AreSound}
+use Rattle.msag_edits.specs.GuideSoundness.{IsPlaced, AreSound}
 use Rattle.msag_edits.proofs.GuideEdits.{HaveFiveDigits}
 use Rattle.number_life.specs.declared.act.LifeAct.{LifeAct}
 use Rattle.number_life.specs.declared.act.LifeAct.TheVariants.{Store, Remove, Unlock}

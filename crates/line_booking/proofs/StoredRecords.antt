@@ -1,5 +1,5 @@
 -- The record as it is stored.
-use Rattle.std.proofs.Common.{◌≡◌, ℕ, ◌+◌, ◌≤◌, Bool, true, false, cond, List, ◌++◌, length, take, drop, refl, ap, sym, ◌∙◌, arith, Option, Some, None, IsSome, Result, Ok, Err, ◌⊎◌, inl, inr, All, Contains, length-append, length-drop}
+use Rattle.std.proofs.Common.{◌≡◌, ℕ, ◌+◌, ◌≤◌, Bool, true, false, cond, List, ◌++◌, length, take, drop, refl, ap, sym, ◌∙◌, arith, Option, Some, None, IsSome, Result, Ok, Err, ◌⊎◌, inl, inr, Contains, length-append, length-drop}
 use Rattle.std.specs.Option.{option_map}
 use Rattle.std.proofs.lemmas.List.{length-take-le}
 use Rattle.std.proofs.lemmas.List.Elements.{All-contains}

@@ -24,8 +24,10 @@ pub fn apply_line(
     company: Company,
     bytes: &[u8; 512],
 ) -> Result<u16, NoMemory>
-    ensures code { IfOk result (λ code. code ≡ line_code guide.now.ranges rows.old most_numbers company bytes.now) }
-    ensures rows { OnOk result (rows.new ≡ table_with_line guide.now.ranges rows.old most_numbers company bytes.now) }
+    ensures code { IfOk result (λ code.
+        code ≡ line_code guide.now.ranges rows.old most_numbers company bytes.now) }
+    ensures rows { OnOk result
+        (rows.new ≡ table_with_line guide.now.ranges rows.old most_numbers company bytes.now) }
     ensures err { OnErr result (rows.new ≡ rows.old) }
     ensures sound { AreSound guide.now rows.old → AreSound guide.now rows.new }
 {

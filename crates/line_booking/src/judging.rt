@@ -58,7 +58,9 @@ fn is_full(rows: &Rows, most_numbers: u32, function: u8) -> bool
 // code of the address check.
 fn filled(guide: &Guide, rec: Record) -> Result<Record, u16>
     ensures { MatchResult result
-        (λ filled. (filled ≡ stored guide.now.ranges rec) × (address_fault guide.now.ranges rec ≡ None) × (length rec ≡ 512 → length filled ≡ 512))
+        (λ filled. (filled ≡ stored guide.now.ranges rec)
+        × (address_fault guide.now.ranges rec ≡ None)
+        × (length rec ≡ 512 → length filled ≡ 512))
         (λ code. address_fault guide.now.ranges rec ≡ Some code) }
 {
     if !rec.sends_address() {

@@ -12,14 +12,16 @@ ghost use Rattle.line_booking.specs.LineVerdict.{table_with_line};
 
 /// A line changes the row of its own number alone.
 pub fn lines_change_one_number()
-    ensures { (ranges : List Range) (table : NumberTable) (most : ℕ) (company bytes tn : List ℕ)
+    ensures { (ranges : List Range) (table : NumberTable) (most : ℕ)
+        (company bytes tn : List ℕ)
         → (tn ≡ field_of bytes TelephoneNumber → ⊥)
         → get (table_with_line ranges table most company bytes) tn ≡ get table tn }
 {}
 
 /// The company lock: a locked row stays as it is, whatever the files of other companies have.
 pub fn locked_rows_stay()
-    ensures { (ranges : List Range) (table : NumberTable) (most : ℕ) (company bytes tn : List ℕ) (row : Row)
+    ensures { (ranges : List Range) (table : NumberTable) (most : ℕ)
+        (company bytes tn : List ℕ) (row : Row)
         → get table tn ≡ Some row → row.unlocked ≡ None → (owner row ≡ company → ⊥)
         → get (table_with_line ranges table most company bytes) tn ≡ Some row }
 {}
@@ -27,19 +29,25 @@ pub fn locked_rows_stay()
 /// A line gives a row another owner only where it is a migrate in that company's file and the row was
 /// unlocked; the row is locked then. The ranges have ESNs of five digits at most.
 pub fn owners_change_by_migrates()
-    ensures { (ranges : List Range) (table : NumberTable) (most : ℕ) (company bytes tn : List ℕ) (old new : Row)
+    ensures { (ranges : List Range) (table : NumberTable) (most : ℕ)
+        (company bytes tn : List ℕ) (old new : Row)
         → All (λ r. r.esn ≤ 99_999) ranges
-        → get table tn ≡ Some old → get (table_with_line ranges table most company bytes) tn ≡ Some new
+        → get table tn ≡ Some old
+        → get (table_with_line ranges table most company bytes) tn ≡ Some new
         → (owner new ≡ owner old → ⊥) → IsMigrated company bytes old new }
 {}
 
 /// A line gives a row a day of unlocking only where it is an unlock in the owner's file; the row keeps
 /// its record. A number that had no row gets a locked one.
 pub fn owners_unlock()
-    ensures day { (ranges : List Range) (table : NumberTable) (most : ℕ) (company bytes tn : List ℕ) (old new : Row)
-        → get table tn ≡ Some old → get (table_with_line ranges table most company bytes) tn ≡ Some new
-        → (new.unlocked ≡ old.unlocked → ⊥) → IsSome new.unlocked → IsUnlocked company bytes tn old new }
-    ensures new { (ranges : List Range) (table : NumberTable) (most : ℕ) (company bytes tn : List ℕ) (new : Row)
+    ensures day { (ranges : List Range) (table : NumberTable) (most : ℕ)
+        (company bytes tn : List ℕ) (old new : Row)
+        → get table tn ≡ Some old
+        → get (table_with_line ranges table most company bytes) tn ≡ Some new
+        → (new.unlocked ≡ old.unlocked → ⊥) → IsSome new.unlocked
+        → IsUnlocked company bytes tn old new }
+    ensures new { (ranges : List Range) (table : NumberTable) (most : ℕ)
+        (company bytes tn : List ℕ) (new : Row)
         → get table tn ≡ None → get (table_with_line ranges table most company bytes) tn ≡ Some new
         → new.unlocked ≡ None }
 {}

@@ -6,4 +6,6 @@ mod judging;
 mod laws;
 
 pub use booking::apply_line;
-pub use laws::{lines_change_one_number, locked_rows_stay, owners_change_by_migrates, owners_unlock};
+pub use laws::{
+    lines_change_one_number, locked_rows_stay, owners_change_by_migrates, owners_unlock,
+};

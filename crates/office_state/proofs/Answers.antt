@@ -1,18 +1,15 @@
 -- What the answer to an entry says.
-use Rattle.std.proofs.Common.{◌≡◌, ◌+◌, [], ◌∷◌, ap, ◌∙◌, Result, Ok, Err, OnOk, OnErr, IfOk, IfErr, MatchResult}
+use Rattle.std.proofs.Common.{◌≡◌, ◌+◌, [], ◌∷◌, ap, ◌∙◌, Result, Ok, Err, OnOk, OnErr, IfOk, IfErr}
 use Rattle.office_entry.specs.declared.entry.Entry.{Entry}
 use Rattle.office_state.specs.declared.apply_fault.ApplyFault.{ApplyFault}
 use Rattle.office_state.specs.declared.verdict.Verdict.{Verdict}
 use Rattle.office_state.specs.OfficeState.{OfficeState}
-use Rattle.office_state.specs.Booked.{IsBooked, IsNotBooked}
+use Rattle.office_state.specs.Booked.{IsBooked, IsAnswer}
 use Rattle.office_state.specs.Due.{IsDue}
 use Rattle.office_state.specs.History.{KeepsHistory}
 use Rattle.office_state.specs.Refusals.{IsRefused}
 use Rattle.office_state.specs.Verdict.{verdict, after}
 use Rattle.office_state.proofs.Histories.{represents_more}
-
-abbrev pub IsAnswer : OfficeState → OfficeState → Entry → Result Verdict ApplyFault → Type 0
-IsAnswer old new e r = MatchResult r (IsBooked old new e) (IsNotBooked old new e)
 
 -- an entry that is booked goes behind the history
 kept : (old new : OfficeState) (e : Entry) (v : Verdict) → IsBooked old new e v → KeepsHistory old new (e ∷ [])

@@ -1,5 +1,5 @@
 -- What an office answers to an entry, and what that leaves of it.
-use Rattle.std.specs.Prelude.{◌≡◌, ◌+◌}
+use Rattle.std.specs.Prelude.{◌≡◌, ◌+◌, Result, MatchResult}
 use Rattle.office_entry.specs.Entries.{IsEntry}
 use Rattle.office_entry.specs.declared.entry.Entry.{Entry}
 use Rattle.office_state.specs.declared.apply_fault.ApplyFault.{ApplyFault}
@@ -24,3 +24,7 @@ pub record IsBooked (old new : OfficeState) (e : Entry) (v : Verdict) : Type 0 w
 pub record IsNotBooked (old new : OfficeState) (e : Entry) (fault : ApplyFault) : Type 0 where
   pub why : IsRefused old.state e fault
   pub same : new ≡ old
+
+-- either of the two, by the answer
+abbrev pub IsAnswer : OfficeState → OfficeState → Entry → Result Verdict ApplyFault → Type 0
+IsAnswer old new e answer = MatchResult answer (IsBooked old new e) (IsNotBooked old new e)

@@ -1,5 +1,5 @@
 //! Entries, booked.
-ghost use Rattle.std.specs.Prelude.{◌≡◌, ◌+◌, ◌<◌, ℕ, ◌∷◌, [], OnOk, OnErr, IfOk, IfErr, MatchResult, Ok, false};
+ghost use Rattle.std.specs.Prelude.{◌≡◌, ◌+◌, ◌<◌, ℕ, ◌∷◌, [], OnOk, OnErr, IfOk, IfErr, Ok, false};
 ghost use Rattle.ali_base.specs.CivilDay.{CivilDay};
 ghost use Rattle.sequence_once.specs.KeptCycles.{last_of, is_last_finished};
 ghost use Rattle.sequence_once.specs.CycleStanding.{standing_of};
@@ -11,7 +11,7 @@ ghost use Rattle.office_state.specs.Due.{IsDue};
 ghost use Rattle.office_state.specs.Refusals.{IsRefused};
 ghost use Rattle.office_state.specs.Verdict.{code_in, verdict, after};
 ghost use Rattle.office_state.specs.History.{KeepsHistory};
-ghost use Rattle.office_state.specs.Booked.{IsBooked, IsNotBooked, with_entry};
+ghost use Rattle.office_state.specs.Booked.{IsAnswer, with_entry};
 
 use crate::apply_fault::ApplyFault;
 use crate::due::{edit_due, line_due};
@@ -70,7 +70,8 @@ impl Office {
         digest: &[u8; 32],
     ) -> Result<Verdict, ApplyFault>
         requires { self.old.entries < 4_000_000_000 }
-        ensures { (day : CivilDay) → let e = AnyEntry.Open company cycle count day digest.now in MatchResult result (IsBooked self.old self.new e) (IsNotBooked self.old self.new e) }
+        ensures { (day : CivilDay)
+            → IsAnswer self.old self.new (AnyEntry.Open company cycle count day digest.now) result }
     {
         if let Err(fault) = self.opening_due(company, cycle, digest) {
             return Err(ApplyFault::NotDue(fault));
@@ -90,7 +91,7 @@ impl Office {
         bytes: &[u8; 512],
     ) -> Result<Verdict, ApplyFault>
         requires { self.old.entries < 4_000_000_000 }
-        ensures { let e = AnyEntry.Line company cycle line bytes.now in MatchResult result (IsBooked self.old self.new e) (IsNotBooked self.old self.new e) }
+        ensures { IsAnswer self.old self.new (AnyEntry.Line company cycle line bytes.now) result }
     {
         if let Err(fault) = line_due(self.due_line(company), cycle.number(), line) {
             return Err(ApplyFault::NotDue(fault));
@@ -109,7 +110,7 @@ impl Office {
         edit: &Edit,
     ) -> Result<Verdict, ApplyFault>
         requires { self.old.entries < 4_000_000_000 }
-        ensures { let e = AnyEntry.Edit editor serial edit.now in MatchResult result (IsBooked self.old self.new e) (IsNotBooked self.old self.new e) }
+        ensures { IsAnswer self.old self.new (AnyEntry.Edit editor serial edit.now) result }
     {
         let digest = edit.digest();
         if let Err(fault) = edit_due(self.edit_standing(editor, serial, &digest)) {
@@ -132,7 +133,8 @@ impl Office {
     ) -> Result<(), NoMemory>
         requires new { standing_of self.old.state.cycles company cycle digest.now ≡ Ok New }
         requires count { self.old.entries < 4_000_000_000 }
-        ensures booked { OnOk result ((day : CivilDay) → self.new ≡ with_entry self.old (AnyEntry.Open company cycle count day digest.now)) }
+        ensures booked { OnOk result ((day : CivilDay)
+            → self.new ≡ with_entry self.old (AnyEntry.Open company cycle count day digest.now)) }
         ensures err { OnErr result (self.new ≡ self.old) }
     {
         self.cycles.open(self.alloc, company, cycle, count, digest)?;
@@ -147,10 +149,17 @@ impl Office {
         requires next { is_last_finished (last_of company self.old.state.cycles.kept) ≡ false }
         requires count { self.old.entries < 4_000_000_000 }
         ensures code { IfOk result (λ code. code ≡ code_in self.old.state company bytes.now) }
-        ensures booked { OnOk result ((cycle line : ℕ) → self.new ≡ with_entry self.old (AnyEntry.Line company cycle line bytes.now)) }
+        ensures booked { OnOk result ((cycle line : ℕ)
+            → self.new ≡ with_entry self.old (AnyEntry.Line company cycle line bytes.now)) }
         ensures err { OnErr result (self.new ≡ self.old) }
     {
-        let code = apply_line(&self.guide, &mut self.rows, self.most_numbers, company, bytes)?;
+        let code = apply_line(
+            &self.guide,
+            &mut self.rows,
+            self.most_numbers,
+            company,
+            bytes,
+        )?;
         self.cycles.note(company, code);
         self.entries += 1;
         Ok(code)
@@ -166,10 +175,13 @@ impl Office {
         digest: &[u8; 32],
     ) -> Result<Verdict, NoMemory>
         requires digest { digest.now ≡ edit_digest edit.now }
-        requires new { serial_standing (last_edit editor self.old.state.edits) serial digest.now ≡ Ok New }
+        requires new { let last = last_edit editor self.old.state.edits in
+            serial_standing last serial digest.now ≡ Ok New }
         requires count { self.old.entries < 4_000_000_000 }
-        ensures verdict { IfOk result (λ v. v ≡ verdict self.old.state (AnyEntry.Edit editor serial edit.now)) }
-        ensures booked { OnOk result (self.new ≡ with_entry self.old (AnyEntry.Edit editor serial edit.now)) }
+        ensures verdict { IfOk result (λ v.
+            v ≡ verdict self.old.state (AnyEntry.Edit editor serial edit.now)) }
+        ensures booked { OnOk result
+            (self.new ≡ with_entry self.old (AnyEntry.Edit editor serial edit.now)) }
         ensures err { OnErr result (self.new ≡ self.old) }
     {
         let done = apply_edit(&mut self.guide, &mut self.rows, edit)?;

@@ -45,8 +45,14 @@ impl Office {
     }
 
     /// Whether an opening may be booked.
-    pub(crate) fn opening_due(&self, company: Company, cycle: Cycle, digest: &[u8; 32]) -> Result<(), DueFault>
-        ensures { result ≡ opening_due (due_line self.now.state company) (standing_of self.now.state.cycles company cycle digest.now) }
+    pub(crate) fn opening_due(
+        &self,
+        company: Company,
+        cycle: Cycle,
+        digest: &[u8; 32],
+    ) -> Result<(), DueFault>
+        ensures { result ≡ opening_due (due_line self.now.state company)
+            (standing_of self.now.state.cycles company cycle digest.now) }
     {
         match self.cycles.standing(company, cycle, digest) {
             Ok(Standing::New) => Ok(()),

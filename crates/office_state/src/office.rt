@@ -34,13 +34,15 @@ impl Model for Office {
 
     ghost view = { λ o. office_of o.rows o.most_numbers o.guide o.cycles o.edits o.entries };
 
-    ghost invariant = { λ o. IsSoundOffice (office_of o.rows o.most_numbers o.guide o.cycles o.edits o.entries) };
+    ghost invariant = { λ o.
+        IsSoundOffice (office_of o.rows o.most_numbers o.guide o.cycles o.edits o.entries) };
 }
 
 impl Office {
     /// The empty office, with these limits.
     pub fn new(alloc: Global, limits: Limits) -> Result<Self, NoMemory>
-        ensures empty { IfOk result (λ office. office ≡ record { state = empty_state limits; entries = 0 }) }
+        ensures empty { IfOk result (λ office.
+            office ≡ record { state = empty_state limits; entries = 0 }) }
         ensures history { IfOk result (λ office. Represents limits office []) }
     {
         Ok(Office {
@@ -56,7 +58,8 @@ impl Office {
 
     /// Forgets all that was applied, as if newly made with the same limits. Takes no memory.
     pub fn clear(&mut self)
-        ensures empty { self.new ≡ record { state = empty_state (limits_of self.old.state); entries = 0 } }
+        ensures empty { self.new
+            ≡ record { state = empty_state (limits_of self.old.state); entries = 0 } }
         ensures history { ForgetsHistory self.old self.new }
     {
         self.rows.clear();

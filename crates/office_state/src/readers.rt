@@ -74,7 +74,8 @@ impl Office {
         serial: Serial,
         digest: &[u8; 32],
     ) -> Result<Standing, CycleFault>
-        ensures table { result ≡ serial_standing (last_edit editor self.now.state.edits) serial digest.now }
+        ensures table { let last = last_edit editor self.now.state.edits in
+            result ≡ serial_standing last serial digest.now }
         ensures sound { AreKeptEdits self.now.state.edits }
     {
         self.edits

@@ -208,6 +208,41 @@ fn two_numbers(abc: Company, one: Cycle, day: Day) -> Option<[Entry; 4]> {
     ])
 }
 
+// A range, and a cycle of two numbers in it, the higher one first.
+fn higher_first(abc: Company, one: Cycle, day: Day) -> Option<[Entry; 4]> {
+    Some([
+        main_street()?,
+        opening(abc, one, 2, day),
+        line(abc, one, 1, &record(b"3035550101", b"ABC01")),
+        line(abc, one, 2, &record(b"3035550100", b"ABC01")),
+    ])
+}
+
+// Rows are shown in the order of their numbers, whatever the order in which they came.
+#[test]
+fn rows_are_in_order(rt: HostRuntime) -> Result<(), Fail> {
+    let abc = Company::read(b"ABC01").expect(&rt, "a company");
+    let one = Cycle::new(1).expect(&rt, "a cycle");
+    let day = Day::read(b"010224").expect(&rt, "a day");
+    let mut office = Office::new(rt.alloc(), Limits::office())?;
+    let [street, open, first, second] = higher_first(abc, one, day).expect(&rt, "entries");
+    assert_eq!(rt; office.apply(&street), range_of_id(1));
+    assert_eq!(rt; office.apply(&open), DONE);
+    assert_eq!(rt; office.apply(&first), DONE);
+    assert_eq!(rt; office.apply(&second), DONE);
+    let mut rows = office.rows_in_order();
+    assert_eq!(rt;
+        rows.next().map(|row| row.rec.tn()),
+        Tn::read(b"3035550100")
+    );
+    assert_eq!(rt;
+        rows.next().map(|row| row.rec.tn()),
+        Tn::read(b"3035550101")
+    );
+    assert!(rt; rows.next().is_none());
+    Ok(())
+}
+
 // One company, one number and one range.
 const SMALL: Limits = Limits {
     companies: 1,

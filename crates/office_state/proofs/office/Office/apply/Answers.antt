@@ -1,6 +1,7 @@
 use Rattle.std.proofs.Common.{sym, subst}
 use Rattle.office_entry.specs.declared.entry.Entry.{Entry}
-use Rattle.office_state.proofs.Answers.{IsAnswer, says}
+use Rattle.office_state.specs.Booked.{IsAnswer}
+use Rattle.office_state.proofs.Answers.{says}
 use Rattle.office_state.proofs.office.Office.apply.Goals as goal
 
 pub returns-in-Open : goal.returns-in-Open
