@@ -68,18 +68,18 @@ is_alone mode.Alone = true
 
 module _ {E : Type 0} (w : World E) where
   -- DOWN duty, DOWN n: it was stopped, or failed, and did not start since.
-  abbrev pub duty_down : Option Refusal
-  duty_down = when (not w.register_up) (Down disk.Duty)
+  abbrev pub duty_is_down : Option Refusal
+  duty_is_down = when (not w.register_up) (Down disk.Duty)
 
-  abbrev pub node_down : NodeName → Option Refusal
-  node_down n = when (not (node_at w.base.nodes n).up) (Down (disk_of n))
+  abbrev pub node_is_down : NodeName → Option Refusal
+  node_is_down n = when (not (node_at w.base.nodes n).up) (Down (disk_of n))
 
   -- UP duty, UP n.
-  abbrev pub duty_up : Option Refusal
-  duty_up = when w.register_up (Up disk.Duty)
+  abbrev pub duty_is_up : Option Refusal
+  duty_is_up = when w.register_up (Up disk.Duty)
 
-  abbrev pub node_up : NodeName → Option Refusal
-  node_up n = when (node_at w.base.nodes n).up (Up (disk_of n))
+  abbrev pub node_is_up : NodeName → Option Refusal
+  node_is_up n = when (node_at w.base.nodes n).up (Up (disk_of n))
 
   -- OUT OF DUTY: the node is not the holder; for a request in mode Alone only.
   abbrev pub not_holder : NodeName → Option Refusal
@@ -150,45 +150,45 @@ module _ {E : Type 0} (w : World E) where
 
   -- The rows of the calls.
   abbrev pub ready_row : NodeName → List (Item E)
-  ready_row n = Test duty_down ∷ Test (node_down n) ∷ Test (not_in_duty n) ∷ []
+  ready_row n = Test duty_is_down ∷ Test (node_is_down n) ∷ Test (not_in_duty n) ∷ []
 
   abbrev pub ask_row : NodeName → ℕ → List (Item E)
-  ask_row n since = Test duty_down ∷ Test (node_down n) ∷ Test (not_in_duty n) ∷ Test (ahead since) ∷ []
+  ask_row n since = Test duty_is_down ∷ Test (node_is_down n) ∷ Test (not_in_duty n) ∷ Test (ahead since) ∷ []
 
   abbrev pub write_row : Bounds → NodeName → E → List (Item E)
   write_row bounds n entry =
-      Test duty_down ∷ Test (node_down n) ∷ Test (not_holder n) ∷ Test in_flight ∷ Next entry ∷ Test (full bounds) ∷ []
+      Test duty_is_down ∷ Test (node_is_down n) ∷ Test (not_holder n) ∷ Test in_flight ∷ Next entry ∷ Test (full bounds) ∷ []
 
   abbrev pub ship_row : NodeName → ℕ → List (Item E)
-  ship_row n k = Test duty_down ∷ Test (node_down n) ∷ Test (not_holder n) ∷ Test (no_entry k) ∷ Test messages_full ∷ []
+  ship_row n k = Test duty_is_down ∷ Test (node_is_down n) ∷ Test (not_holder n) ∷ Test (no_entry k) ∷ Test messages_full ∷ []
 
   -- A delivery, of a number that was sent or was not.
   abbrev pub message_row : ℕ → Option (Message E) → List (Item E)
   message_row i None = Test (Some (No_message i (length w.base.messages))) ∷ []
   message_row i (Some (Ships x)) =
-      Test duty_down ∷ Test (node_down (other x.sender)) ∷ Test messages_full ∷ Test (stale x) ∷ []
-  message_row i (Some (Acks ack)) = Test duty_down ∷ Test (node_down ack.to) ∷ Test (stale_ack ack) ∷ []
+      Test duty_is_down ∷ Test (node_is_down (other x.sender)) ∷ Test messages_full ∷ Test (stale x) ∷ []
+  message_row i (Some (Acks ack)) = Test duty_is_down ∷ Test (node_is_down ack.to) ∷ Test (stale_ack ack) ∷ []
 
   -- Passing frame k on, which takes no number: the holder reads it before the other node is looked at.
   abbrev pub shipping_row : ℕ → List (Item E)
-  shipping_row k = Test duty_down ∷ Test (node_down w.base.duty.holder) ∷ Test (no_entry k) ∷ []
+  shipping_row k = Test duty_is_down ∷ Test (node_is_down w.base.duty.holder) ∷ Test (no_entry k) ∷ []
 
   abbrev pub receiving_row : Shipment E → List (Item E)
-  receiving_row x = Test (node_down (other x.sender)) ∷ Test (stale x) ∷ []
+  receiving_row x = Test (node_is_down (other x.sender)) ∷ Test (stale x) ∷ []
 
   abbrev pub book_row : List (Item E)
-  book_row = Test duty_down ∷ Test (node_down w.base.duty.holder) ∷ Test no_flight ∷ Test unstored ∷ []
+  book_row = Test duty_is_down ∷ Test (node_is_down w.base.duty.holder) ∷ Test no_flight ∷ Test unstored ∷ []
 
   abbrev pub take_row : Bounds → NodeName → List (Item E)
-  take_row bounds n = Test duty_down ∷ Test (node_down n) ∷ Test not_paired ∷ Test (epoch_end bounds) ∷ []
+  take_row bounds n = Test duty_is_down ∷ Test (node_is_down n) ∷ Test not_paired ∷ Test (epoch_end bounds) ∷ []
 
   abbrev pub alone_row : Bounds → List (Item E)
   alone_row bounds = take_row bounds w.base.duty.holder
 
   abbrev pub pair_row : Bounds → List (Item E)
   pair_row bounds =
-      Test duty_down
-      ∷ Test (node_down w.base.duty.holder)
+      Test duty_is_down
+      ∷ Test (node_is_down w.base.duty.holder)
       ∷ Test paired
       ∷ Test in_flight
       ∷ Test not_in_step
@@ -197,21 +197,21 @@ module _ {E : Type 0} (w : World E) where
 
   abbrev pub catch_up_row : List (Item E)
   catch_up_row =
-      Test duty_down
-      ∷ Test (node_down w.base.duty.holder)
+      Test duty_is_down
+      ∷ Test (node_is_down w.base.duty.holder)
       ∷ Test paired
-      ∷ Test (node_down (other w.base.duty.holder))
+      ∷ Test (node_is_down (other w.base.duty.holder))
       ∷ []
 
   abbrev pub stop_row : NodeName → List (Item E)
-  stop_row n = Test (node_down n) ∷ []
+  stop_row n = Test (node_is_down n) ∷ []
 
   -- A start on this journal.
   abbrev pub start_row : NodeName → List (Frame E) → List (Item E)
-  start_row n journal = Test duty_down ∷ Test (node_up n) ∷ Test (short n journal) ∷ []
+  start_row n journal = Test duty_is_down ∷ Test (node_is_up n) ∷ Test (short n journal) ∷ []
 
   abbrev pub start_duty_row : List (Item E)
-  start_duty_row = Test duty_up ∷ []
+  start_duty_row = Test duty_is_up ∷ []
 
   abbrev pub status_row : List (Item E)
-  status_row = Test duty_down ∷ []
+  status_row = Test duty_is_down ∷ []

@@ -1,12 +1,11 @@
 //! What each part of the invariant is for: a world that has all the other parts, and a schedule from it that
 //! books an entry which may not be booked next, makes a pair of two journals, or comes to a takeover that loses
 //! what was booked.
-ghost use Rattle.std.specs.Prelude.{◌≡◌, ◌⊎◌, [], ◌∷◌, true};
+ghost use Rattle.std.specs.Prelude.{◌≡◌, [], ◌∷◌, true};
 ghost use Rattle.ali_base.specs.declared.names.NodeName.TheVariants.{A, B};
-ghost use Rattle.ali_base.specs.declared.duty.Mode.TheVariants.{Both, Alone};
-ghost use Rattle.pair_world.specs.Frames.{Begins, Agree, Legal};
-ghost use Rattle.pair_world.specs.SoundWorld.{IsMirrored, HasUncommittedSuffix, Booked, Mirrored, Following, In_time, Current, Acknowledged, Known, Floored, Invariant};
-ghost use Rattle.pair_world.specs.World.{Resolved, holder_journal, other_journal, Choice, unrecovered, resolved};
+ghost use Rattle.pair_world.specs.Frames.{Legal};
+ghost use Rattle.pair_world.specs.SoundWorld.{Booked, Mirrored, Following, Agreeing, In_time, Current, Acknowledged, Known, Floored, Holds, Invariant};
+ghost use Rattle.pair_world.specs.World.{Resolved, Choice, unrecovered, resolved};
 ghost use Rattle.pair_world.specs.Step.{Book, Take, Start_duty, WorldStep, Runs};
 ghost use Rattle.pair_world.specs.Changes.{register_started};
 ghost use Rattle.pair_world.specs.DoubtfulWorlds.{doubtful_taker, write_lasted, replaced_history};
@@ -45,9 +44,8 @@ pub fn following_is_needed<L: Entries>()
 /// Agreement follows from `Mirrored` and `Following`. Without it, a pair is made of two journals, and a takeover
 /// loses what was booked.
 pub fn agreement_follows<L: Entries>()
-    ensures agreement { (w : Resolved L.Entry) → (w.duty.mode ≡ Both → IsMirrored w)
-        → (w.duty.mode ≡ Alone → Begins (holder_journal w) (other_journal w) ⊎ HasUncommittedSuffix w)
-        → Agree (holder_journal w) (other_journal w) }
+    ensures agreement { (w : Resolved L.Entry)
+        → Holds L.due w Mirrored → Holds L.due w Following → Holds L.due w Agreeing }
     ensures not_agreeing { (one another : L.Entry) → (one ≡ another → ⊥)
         → RunsToLoss L.due L.form (not_agreeing one another) paired_apart
         (after_not_agreeing one another) (Take A) }
