@@ -10,3 +10,6 @@ pub use carrier_file::{header, joined, trailer};
 pub use columns::put;
 pub use sent_record::SentRecord;
 pub use streets::street;
+
+#[cfg(test)]
+mod tests;
