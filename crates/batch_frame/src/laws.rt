@@ -5,6 +5,8 @@ ghost use Rattle.batch_frame.specs.CarrierFile.{CarrierFile, IsFile, IsRecord, L
 ghost use Rattle.batch_frame.specs.FrameFault.{AreSound, IsRead, frame_fault};
 ghost use Rattle.batch_frame.specs.declared.separator.Separator.{Separator};
 
+use crate::fault::MOST_RECORDS;
+
 /// Bytes have at most one reading as parts, and are read as at most one file.
 pub fn one_reading()
     ensures parts { (bytes header head trailer tail : List ℕ) (records others : List (List ℕ))
@@ -35,4 +37,9 @@ pub fn faults_are_of_the_parts()
 pub fn sound_bytes_are_a_file()
     ensures { (bytes : List ℕ) → frame_fault bytes ≡ None
         → (file : CarrierFile) × IsRead bytes file }
+{}
+
+/// A file has at most 10,000 records.
+pub fn limit_of_records()
+    ensures { MOST_RECORDS ≡ 10_000 }
 {}

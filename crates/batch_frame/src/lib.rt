@@ -11,6 +11,7 @@ mod separator;
 pub use fault::{FrameFault, MOST_RECORDS};
 pub use file::{FileFrame, FileView, read_file};
 pub use laws::{
-    faults_are_of_the_parts, one_reading, parts_are_read_again, sound_bytes_are_a_file,
+    faults_are_of_the_parts, limit_of_records, one_reading, parts_are_read_again,
+    sound_bytes_are_a_file,
 };
 pub use separator::Separator;

@@ -10,17 +10,6 @@ use Rattle.ali_base.specs.declared.house.TheConstants.{HIGHEST_HOUSE}
 use Rattle.number_table.specs.HouseArithmetic.{added, stays_house}
 use Rattle.msag_edits.specs.HouseArithmetic.{is_odd, is_one_parity}
 
--- the number has the parity, as a fact
-abbrev pub Has : Parity → ℕ → Type 0
-Has Odd n = n % 2 ≡ 1
-Has Even n = n % 2 ≡ 0
-Has Both n = Unit {0}
-
-pub has_parity-says : (p : Parity) (n : ℕ) → Decides (has_parity p n) (Has p n)
-has_parity-says Odd n = (λ h. grind (arith, nat_tests), λ h. grind (arith, nat_tests))
-has_parity-says Even n = (λ h. grind (arith, nat_tests), λ h. grind (arith, nat_tests))
-has_parity-says Both n = (λ h. tt, λ h. refl)
-
 -- a number has the parity, or the next one has
 pub one_or_next : (p : Parity) (n : ℕ) → has_parity p n ≡ false → has_parity p (n + 1) ≡ true
 one_or_next Odd n h = grind (arith, nat_tests)

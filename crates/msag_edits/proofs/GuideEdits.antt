@@ -18,6 +18,7 @@ use Rattle.msag_edits.specs.Edits.{edit_verdict, edit_act}
 use Rattle.msag_edits.specs.HouseArithmetic.{is_odd, is_one_parity}
 use Rattle.msag_edits.proofs.Arithmetic.{choice, greatest_to-is, added-limit}
 use Rattle.msag_edits.proofs.Ranges.{live, sound_ends, both_parts, set-asks, may_stand-esn, may_stand-lower, may_stand-shifted, may_stand-upper}
+use Rattle.msag_edits.proofs.Verdicts.{not_refused, found_range, nothing_overlaps, has_room, small_esn}
 use Rattle.msag_ranges.proofs.GuideKept.{find-from_place, find-no_place, sound-add, sound-moved, sound-remove}
 use Rattle.number_table.specs.HouseArithmetic.{added, stays_house}
 use Rattle.number_table.specs.HeldRows.{count_held}
@@ -29,30 +30,6 @@ use Rattle.office_entry.specs.Edits.{IsEdit}
 -- each range has an emergency service number of five digits at most
 abbrev pub HaveFiveDigits : List Range → Type 0
 HaveFiveDigits ranges = All (λ r. r.esn ≤ HIGHEST_ESN) ranges
-
--- ---- what code 0 says
-
--- a test that refuses did not
-not_refused : (b : Bool) (code : ℕ) (v : EditVerdict) → 0 < code → (cond b (refused code) v).code ≡ 0 → (b ≡ false) × (v.code ≡ 0)
-not_refused true code v some h = absurd (omega arith)
-not_refused false code v some h = (refl, h)
-
--- the range is there
-there : (o : Option Range) (next : Range → EditVerdict) → (for_range o next).code ≡ 0 → (r : Range) × (o ≡ Some r) × ((next r).code ≡ 0)
-there None next h = absurd (omega arith)
-there (Some r) next h = (r, refl, h)
-
--- nothing is in the way
-free : (o : Option ℕ) (next : EditVerdict) → (unless_overlap o next).code ≡ 0 → (o ≡ None) × (next.code ≡ 0)
-free None next h = (refl, h)
-free (Some id) next h = absurd (omega arith)
-
--- the guide has room
-room : (g : StreetGuide) → (new_id g).code ≡ 0 → length g.ranges + 1 ≤ g.limit
-room g h = let below = (not_refused (nat_le g.limit (length g.ranges)) 509 (done g.next) (omega arith) h).0 in grind (arith, nat_tests)
-
-small_esn : (esn : ℕ) → is_esn esn ≡ true → esn ≤ HIGHEST_ESN
-small_esn esn h = let w = and_parts (nat_le 1 esn) (nat_le esn HIGHEST_ESN) h in grind (arith, nat_tests)
 
 sound_new : (id : ℕ) (key : StreetKey) (low high : ℕ) (parity : Parity) (esn : ℕ) → are_sound_ends parity low high ≡ true → HasSoundEnds (new_range id key low high parity esn)
 sound_new id key low high parity esn h =
@@ -95,8 +72,8 @@ add_keeps g key low high parity esn guide small clear =
     let last = unless_overlap (least_overlap g.ranges new None) (new_id g) in
     let ends = not_refused (not (are_sound_ends parity low high)) 503 (if not (is_esn esn) then refused 508 else last) (omega arith) clear in
     let number = not_refused (not (is_esn esn)) 508 last (omega arith) ends.1 in
-    let apart = free (least_overlap g.ranges new None) (new_id g) number.1 in (
-      sound-add g.ranges g.next g.limit new guide refl (record { ends = sound_new g.next key low high parity esn (not-false _ ends.0); free = apart.0 }) small (room g apart.1),
+    let apart = nothing_overlaps (least_overlap g.ranges new None) (new_id g) number.1 in (
+      sound-add g.ranges g.next g.limit new guide refl (record { ends = sound_new g.next key low high parity esn (not-false _ ends.0); free = apart.0 }) small (has_room g apart.1),
       λ old. All-push (λ s. s.esn ≤ HIGHEST_ESN) g.ranges new old (small_esn esn (not-false _ number.0)),
     )
 
@@ -109,7 +86,7 @@ low_high g id r guide found = All-contains (λ s. s.high ≤ HIGHEST_HOUSE) g.ra
 
 set_esn_keeps : (g : StreetGuide) (rows : NumberTable) (id esn : ℕ) → IsSoundGuide g.ranges g.next g.limit → (set_esn_verdict g rows id esn).code ≡ 0 → Keeps g (set_esn_act g id esn)
 set_esn_keeps g rows id esn guide clear =
-    let w = there (range_of g.ranges id) (λ r. if not (is_esn esn) then refused 508 else done (count_held rows r)) clear in
+    let w = found_range (range_of g.ranges id) (λ r. if not (is_esn esn) then refused 508 else done (count_held rows r)) clear in
     let r : Range = w.0 in
     let number = not_refused (not (is_esn esn)) 508 (done (count_held rows r)) (omega arith) w.2 in
     rw w.1 (
@@ -125,12 +102,12 @@ renumber_keeps : (g : StreetGuide) (rows : NumberTable) (id : ℕ) (by : ℤ) �
 renumber_keeps g rows id by guide clear =
     let last = λ (r : Range). unless_overlap (least_overlap g.ranges (shifted r by) (Some id)) (done (count_held rows r)) in
     let second = λ (r : Range). (if not (stays_house r.low by && stays_house r.high by) then refused 506 else last r) in
-    let w = there (range_of g.ranges id) (λ r. if is_one_parity r.parity && is_odd by then refused 507 else second r) clear in
+    let w = found_range (range_of g.ranges id) (λ r. if is_one_parity r.parity && is_odd by then refused 507 else second r) clear in
     let r : Range = w.0 in
     let even = not_refused (is_one_parity r.parity && is_odd by) 507 (second r) (omega arith) w.2 in
     let inside = not_refused (not (stays_house r.low by && stays_house r.high by)) 506 (last r) (omega arith) even.1 in
     let ends = and_parts (stays_house r.low by) (stays_house r.high by) (not-false _ inside.0) in
-    let apart = free (least_overlap g.ranges (shifted r by) (Some id)) (done (count_held rows r)) inside.1 in
+    let apart = nothing_overlaps (least_overlap g.ranges (shifted r by) (Some id)) (done (count_held rows r)) inside.1 in
     let stands = may_stand-shifted g.ranges g.next g.limit id by r guide w.1 even.0 ends.0 ends.1 apart.0 in
     rw w.1 (
       moved_kept g.ranges g.next g.limit id (added r.low by) (added r.high by) r.esn r guide w.1 stands (added-limit r.high by (low_high g id r guide w.1) ends.1),
@@ -140,7 +117,7 @@ renumber_keeps g rows id by guide clear =
 split_keeps : (g : StreetGuide) (id at esn : ℕ) → IsSoundGuide g.ranges g.next g.limit → (split_verdict g id at esn).code ≡ 0 → Keeps g (split_act g id at esn)
 split_keeps g id at esn guide clear =
     let second : EditVerdict = if not (is_esn esn) then refused 508 else new_id g in
-    let w = there (range_of g.ranges id) (λ r. if has_empty_part r at then refused 505 else second) clear in
+    let w = found_range (range_of g.ranges id) (λ r. if has_empty_part r at then refused 505 else second) clear in
     let r : Range = w.0 in
     let parts = not_refused (has_empty_part r at) 505 second (omega arith) w.2 in
     let between = both_parts r at parts.0 in
@@ -150,7 +127,7 @@ split_keeps g id at esn guide clear =
     let xs = with_moved g.ranges id r.low (greatest_to r.parity at) r.esn in
     let lower = moved_kept g.ranges g.next g.limit id r.low (greatest_to r.parity at) r.esn r guide w.1 (may_stand-lower g.ranges g.next g.limit id at r guide w.1 between.0 between.1) (omega (arith, last.1, between.1, top)) in
     let upper = may_stand-upper g.ranges g.next g.limit id g.next at esn r guide w.1 between.0 between.1 in
-    let space : length xs + 1 ≤ g.limit = omega (arith, room g number.1, length-map g.ranges (λ (s : Range). cond (s.id == id) (moved s r.low (greatest_to r.parity at) r.esn) s)) in
+    let space : length xs + 1 ≤ g.limit = omega (arith, has_room g number.1, length-map g.ranges (λ (s : Range). cond (s.id == id) (moved s r.low (greatest_to r.parity at) r.esn) s)) in
     rw w.1 (
       sound-add xs g.next g.limit (upper_part r g.next at esn) lower refl upper top space,
       λ old. All-push (λ s. s.esn ≤ HIGHEST_ESN) xs (upper_part r g.next at esn) (own_digits g id r.low (greatest_to r.parity at) r w.1 old) (small_esn esn (not-false _ number.0)),

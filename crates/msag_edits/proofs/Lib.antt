@@ -1,6 +1,7 @@
 pub mod Arithmetic
 pub mod Ranges
 pub mod RowFields
+pub mod Verdicts
 pub mod Soundness
 pub mod PartsAndShifts
 pub mod GuideEdits

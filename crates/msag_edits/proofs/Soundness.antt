@@ -27,13 +27,14 @@ use Rattle.ali_base.specs.StreetKey.{same_key}
 use Rattle.ali_base.specs.declared.house.TheConstants.{HIGHEST_HOUSE}
 use Rattle.ali_base.specs.declared.esn.TheConstants.{HIGHEST_ESN}
 use Rattle.std.specs.Ordering.{eq_by_cmp}
-use Rattle.std.proofs.lemmas.Bool.{and_parts, and_from}
+use Rattle.std.proofs.lemmas.Bool.{and_parts, and_from, not-false}
 use Rattle.number_table.proofs.HeldAddresses.{stays-between, held-parts, held-from, held-address, held-by, same-address}
 use Rattle.msag_edits.proofs.Arithmetic.{choice, not_both, none_between, added-order, added-parity, added-limit}
 use Rattle.ali_record.specs.Address.{record_key}
 use Rattle.msag_ranges.specs.StreetGuide.{range_of}
 use Rattle.msag_edits.proofs.Ranges.{live, one_of_id, different_ids, one_holder}
 use Rattle.msag_edits.proofs.RowFields.{house-size, house-there, house-key, house-esn, esn-size, esn-there, esn-house, esn-key}
+use Rattle.msag_edits.proofs.Verdicts.{not_refused, found_range, small_esn}
 use Rattle.msag_edits.specs.GuideSoundness.{IsPlaced, ArePlaced, AreSound}
 
 -- ---- elements of changed lists
@@ -244,27 +245,10 @@ add-done g rows after key low high parity esn sound each =
 on_range-is : (g : StreetGuide) (id : ℕ) (act : Range → EditAct) (r : Range) → range_of g.ranges id ≡ Some r → on_range g id act ≡ act r
 on_range-is g id act r found = ap (λ o. option_map_or act o (nothing g)) found
 
--- a code 0 names a range that is there
-found-range : (o : Option Range) (next : Range → EditVerdict) → (for_range o next).code ≡ 0 → (r : Range) × (o ≡ Some r) × ((next r).code ≡ 0)
-found-range None next h = absurd (omega arith)
-found-range (Some r) next h = (r, refl, h)
-
--- a test that refuses did not
-not_refused : (b : Bool) (code : ℕ) (v : EditVerdict) → 0 < code → (cond b (refused code) v).code ≡ 0 → (b ≡ false) × (v.code ≡ 0)
-not_refused true code v h k = absurd (omega arith)
-not_refused false code v h k = (refl, k)
-
-was_true : (b : Bool) → not b ≡ false → b ≡ true
-was_true true h = refl
-was_true false h = absurd cc
-
-esn-small : (esn : ℕ) → is_esn esn ≡ true → esn ≤ HIGHEST_ESN
-esn-small esn h = let w = and_parts (nat_le 1 esn) (nat_le esn HIGHEST_ESN) h in grind (arith, nat_tests)
-
 retire-done : (g : StreetGuide) (rows after : NumberTable) (id : ℕ) → AreSound g rows → (retire_verdict g rows id).code ≡ 0
     → AreChanged (λ row. row) rows after → ArePlaced (without g.ranges id) after
 retire-done g rows after id sound clear each =
-    let w = found-range (range_of g.ranges id) (λ r. unused (least_held rows r)) clear in
+    let w = found_range (range_of g.ranges id) (λ r. unused (least_held rows r)) clear in
     let none : least_held rows w.0 ≡ None = no_row (least_held rows w.0) w.2 in
     placed-through g.ranges (without g.ranges id) (λ row. row) rows after each sound.placed
     (λ tn row has p. placed-retire g rows id w.0 tn row sound w.1 none has p)
@@ -282,11 +266,11 @@ split-done g rows after id at esn sound clear each =
       next = g.next + 1;
       row = esn_row (upper_part r g.next at esn) esn;
     } in a) in
-    let w = found-range (range_of g.ranges id) test clear in
+    let w = found_range (range_of g.ranges id) test clear in
     let r : Range = w.0 in
     let parts = not_refused (has_empty_part r at) 505 (if not (is_esn esn) then refused 508 else new_id g) (omega arith) w.2 in
     let number = not_refused (not (is_esn esn)) 508 (new_id g) (omega arith) parts.1 in
-    let small = esn-small esn (was_true (is_esn esn) number.0) in
+    let small = small_esn esn (not-false _ number.0) in
     let is : split_act g id at esn ≡ act r = on_range-is g id act r w.1 in
     subst (λ (a : EditAct). ArePlaced a.ranges after) (sym is)
     (placed-through g.ranges (act r).ranges (act r).row rows after (subst (λ (a : EditAct). AreChanged a.row rows after) is each) sound.placed
@@ -297,10 +281,10 @@ set_esn-done : (g : StreetGuide) (rows after : NumberTable) (id esn : ℕ) → A
 set_esn-done g rows after id esn sound clear each =
     let test = λ (r : Range). (if not (is_esn esn) then refused 508 else done (count_held rows r)) in
     let act = λ (r : Range). (let a : EditAct = record { ranges = with_moved g.ranges id r.low r.high esn; next = g.next; row = esn_row r esn } in a) in
-    let w = found-range (range_of g.ranges id) test clear in
+    let w = found_range (range_of g.ranges id) test clear in
     let r : Range = w.0 in
     let number = not_refused (not (is_esn esn)) 508 (done (count_held rows r)) (omega arith) w.2 in
-    let small = esn-small esn (was_true (is_esn esn) number.0) in
+    let small = small_esn esn (not-false _ number.0) in
     let is : set_esn_act g id esn ≡ act r = on_range-is g id act r w.1 in
     subst (λ (a : EditAct). ArePlaced a.ranges after) (sym is)
     (placed-through g.ranges (act r).ranges (act r).row rows after (subst (λ (a : EditAct). AreChanged a.row rows after) is each) sound.placed
@@ -313,11 +297,11 @@ renumber-done g rows after id by sound clear each =
     let second = λ (r : Range). (if not (stays_house r.low by && stays_house r.high by) then refused 506 else last r) in
     let test = λ (r : Range). (if is_one_parity r.parity && is_odd by then refused 507 else second r) in
     let act = λ (r : Range). (let a : EditAct = record { ranges = with_moved g.ranges id (added r.low by) (added r.high by) r.esn; next = g.next; row = shifted_row r by } in a) in
-    let w = found-range (range_of g.ranges id) test clear in
+    let w = found_range (range_of g.ranges id) test clear in
     let r : Range = w.0 in
     let even = not_refused (is_one_parity r.parity && is_odd by) 507 (second r) (omega arith) w.2 in
     let inside = not_refused (not (stays_house r.low by && stays_house r.high by)) 506 (last r) (omega arith) even.1 in
-    let ends = and_parts (stays_house r.low by) (stays_house r.high by) (was_true (stays_house r.low by && stays_house r.high by) inside.0) in
+    let ends = and_parts (stays_house r.low by) (stays_house r.high by) (not-false _ inside.0) in
     let is : renumber_act g id by ≡ act r = on_range-is g id act r w.1 in
     subst (λ (a : EditAct). ArePlaced a.ranges after) (sym is)
     (placed-through g.ranges (act r).ranges (act r).row rows after (subst (λ (a : EditAct). AreChanged a.row rows after) is each) sound.placed

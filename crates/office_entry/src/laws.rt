@@ -7,6 +7,8 @@ ghost use Rattle.office_entry.specs.EditBytes.{edit_bytes};
 ghost use Rattle.office_entry.specs.EditReading.{edit_of_text};
 ghost use Rattle.office_entry.specs.BytesReading.{edit_from};
 
+use crate::edit::HIGHEST_SENT;
+
 /// What is read as an edit's text is spelled so, and what is spelled so is read.
 pub fn texts_are_read_as_spelled()
     ensures { (bytes : List ℕ) (edit : Edit)
@@ -30,4 +32,9 @@ pub fn bytes_are_read_as_written()
 pub fn bytes_are_of_one_edit()
     ensures { (edit other : Edit) → IsEdit edit → IsEdit other
         → edit_bytes edit ≡ edit_bytes other → edit ≡ other }
+{}
+
+/// An edit sends numbers of at most 999,999.
+pub fn limit_of_sent_numbers()
+    ensures { HIGHEST_SENT ≡ 999_999 }
 {}

@@ -23,7 +23,7 @@ pub use entry_laws::{
 };
 pub use esn_sent::EsnSent;
 pub use laws::{
-    bytes_are_of_one_edit, bytes_are_read_as_written, texts_are_of_one_edit,
+    bytes_are_of_one_edit, bytes_are_read_as_written, limit_of_sent_numbers, texts_are_of_one_edit,
     texts_are_read_as_spelled,
 };
 

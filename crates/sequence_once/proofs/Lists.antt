@@ -11,17 +11,9 @@ module _ {X : Type 0} where
   each_weaker P Q w [] h = tt
   each_weaker P Q w (x ∷ xs) h = (w x h.0, each_weaker P Q w xs h.1)
 
-  pub each_both : (P Q : X → Type 0) → (xs : List X) → AllByRecursion P xs → AllByRecursion Q xs → AllByRecursion (λ x. P x × Q x) xs
-  each_both P Q [] h k = tt
-  each_both P Q (x ∷ xs) h k = ((h.0, k.0), each_both P Q xs h.1 k.1)
-
   pub each_append : (P : X → Type 0) (xs ys : List X) → AllByRecursion P xs → AllByRecursion P ys → AllByRecursion P (xs ++ ys)
   each_append P [] ys h k = k
   each_append P (x ∷ xs) ys h k = (h.0, each_append P xs ys h.1 k)
-
-  pub each_always : (P : X → Type 0) → ((x : X) → P x) → (xs : List X) → AllByRecursion P xs
-  each_always P h [] = tt
-  each_always P h (x ∷ xs) = (h x, each_always P h xs)
 
   pub each_passes : (p : X → Bool) (xs : List X) → AllByRecursion (λ x. p x ≡ true) (filter p xs)
   each_passes p xs = recursion_from_All _ _ (filter_passes p xs)

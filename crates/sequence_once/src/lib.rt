@@ -7,12 +7,14 @@ mod cycles;
 mod edit_record;
 mod hashing;
 mod kept;
+mod kept_laws;
 mod serials;
 mod standing;
 
 pub use cycles::{Cycles, KEPT_CYCLES};
 pub use hashing::digest;
 pub use kept::{KeptCycle, Last};
+pub use kept_laws::limit_of_kept_cycles;
 pub use serials::Serials;
 pub use standing::{CycleFault, Standing};
 
