@@ -6,8 +6,7 @@ use Rattle.crash_disk.specs.CrashOutcomes.{Torn, written}
 use Rattle.crash_disk.specs.Moments.{EachMoment}
 use Rattle.crash_disk.proofs.Runs.{weaker}
 use Rattle.crash_disk.proofs.TornBytes.{torn_front, torn_byte, written_at}
-use Rattle.commit_log.specs.declared.blocks.TheConstants.{COMMITTED}
-use Rattle.commit_log.specs.LogImage.{AreBodies, StandsFor, log_front, frame_place}
+use Rattle.commit_log.specs.LogImage.{AreBodies, StandsFor, log_front, frame_place, committed}
 use Rattle.commit_log.specs.LogState.{StandsForEither, with_body}
 use Rattle.commit_log.proofs.Bodies.{bodies_push, length-log_front, log_front_push}
 
@@ -25,7 +24,7 @@ module _ (is_body : ℕ → List ℕ → Bool) (head : List ℕ) (bodies : List 
   behind_commit byte = omega (arith, front_long, length-append front (byte ∷ []))
 
   -- the frame stays uncommitted in each outcome of the first write
-  torn_block : (n byte : ℕ) (rest c : List ℕ) → byte ≢ COMMITTED → Torn place n (front ++ byte ∷ rest) c → StandsFor is_body head bodies c
+  torn_block : (n byte : ℕ) (rest c : List ℕ) → byte ≢ committed → Torn place n (front ++ byte ∷ rest) c → StandsFor is_body head bodies c
   torn_block n byte rest c uncommitted torn =
       let parted : front ++ byte ∷ rest ≡ (front ++ byte ∷ []) ++ rest = sym (append_assoc front (byte ∷ []) rest) in
       let (more, same) = torn_front place n (front ++ byte ∷ []) rest c (behind_commit byte) (subst (λ (l : List ℕ). Torn place n l c) parted torn) in
@@ -46,12 +45,12 @@ module _ (is_body : ℕ → List ℕ → Bool) (head : List ℕ) (bodies : List 
       ∙ ap (λ (l : List ℕ). front ++ byte ∷ l) (append_assoc body (0 ∷ []) left)
 
   -- the frame stands whole behind the byte that commits it
-  whole : (byte : ℕ) (more : List ℕ) → byte ≡ COMMITTED → StandsFor is_body head (with_body bodies body) (staged byte more)
+  whole : (byte : ℕ) (more : List ℕ) → byte ≡ committed → StandsFor is_body head (with_body bodies body) (staged byte more)
   whole byte more same = record {
     next = 0;
     rest = more;
-    parts = ap (λ (b : ℕ). staged b more) same ∙ sym (append_assoc front (COMMITTED ∷ body) (0 ∷ more)) ∙ ap (λ (l : List ℕ). l ++ 0 ∷ more) (sym (log_front_push head bodies body));
-    uncommitted = λ (zero_is : 0 ≡ COMMITTED). omega (arith, zero_is);
+    parts = ap (λ (b : ℕ). staged b more) same ∙ sym (append_assoc front (committed ∷ body) (0 ∷ more)) ∙ ap (λ (l : List ℕ). l ++ 0 ∷ more) (sym (log_front_push head bodies body));
+    uncommitted = λ (zero_is : 0 ≡ committed). omega (arith, zero_is);
     lawful = bodies_push is_body (length head) number bodies body counts lawful long is;
   }
 
@@ -74,7 +73,7 @@ module _ (is_body : ℕ → List ℕ → Bool) (head : List ℕ) (bodies : List 
           let (new, after, same) = torn_byte at front byte (body ++ 0 ∷ more) c commit_long torn in
           let parts : c ≡ staged new (more ++ after) =
           same ∙ append_assoc front (new ∷ (body ++ 0 ∷ more)) after ∙ ap (λ (l : List ℕ). front ++ new ∷ l) (append_assoc body (0 ∷ more) after) in
-          subst (StandsForEither is_body head bodies (with_body bodies body)) (sym parts) (elim (cases_eq new COMMITTED) [
+          subst (StandsForEither is_body head bodies (with_body bodies body)) (sym parts) (elim (cases_eq new committed) [
             | inl commits ↦ inr (whole new (more ++ after) commits)
             | inr other ↦ inl (record { next = new; rest = body ++ 0 ∷ (more ++ after); parts = refl; uncommitted = other; lawful = lawful })
           ])
@@ -84,10 +83,10 @@ module _ (is_body : ℕ → List ℕ → Bool) (head : List ℕ) (bodies : List 
           weaker s t (Torn at 1 (written place block image)) (StandsForEither is_body head bodies (with_body bodies body))
           (λ c torn. torn_commit stands.next (drop (length block) stands.rest) c (subst (λ (l : List ℕ). Torn at 1 l c) middle_is torn)) run
 
-      written_commit : (byte : ℕ) (more : List ℕ) → written at (COMMITTED ∷ []) (staged byte more) ≡ staged COMMITTED more
-      written_commit byte more = written_at at front (COMMITTED ∷ []) (byte ∷ (body ++ 0 ∷ more)) commit_long ∙ append_assoc front (COMMITTED ∷ []) (body ++ 0 ∷ more)
+      written_commit : (byte : ℕ) (more : List ℕ) → written at (committed ∷ []) (staged byte more) ≡ staged committed more
+      written_commit byte more = written_at at front (committed ∷ []) (byte ∷ (body ++ 0 ∷ more)) commit_long ∙ append_assoc front (committed ∷ []) (body ++ 0 ∷ more)
 
-      pub both_written : StandsFor is_body head (with_body bodies body) (written at (COMMITTED ∷ []) (written place block image))
+      pub both_written : StandsFor is_body head (with_body bodies body) (written at (committed ∷ []) (written place block image))
       both_written =
-          subst (StandsFor is_body head (with_body bodies body)) (sym (ap (written at (COMMITTED ∷ [])) middle_is ∙ written_commit stands.next (drop (length block) stands.rest)))
-          (whole COMMITTED (drop (length block) stands.rest) refl)
+          subst (StandsFor is_body head (with_body bodies body)) (sym (ap (written at (committed ∷ [])) middle_is ∙ written_commit stands.next (drop (length block) stands.rest)))
+          (whole committed (drop (length block) stands.rest) refl)

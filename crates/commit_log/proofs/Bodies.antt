@@ -4,8 +4,7 @@ use Rattle.std.specs.Prelude.{slice_get}
 use Rattle.std.proofs.Math.Nat.{mul-suc}
 use Rattle.std.proofs.lemmas.List.{append-nil}
 use Rattle.std.proofs.lemmas.List.Concat.{flat_map-append}
-use Rattle.commit_log.specs.declared.blocks.TheConstants.{COMMITTED}
-use Rattle.commit_log.specs.LogImage.{AreBodies, committed_frames, log_front, frame_place}
+use Rattle.commit_log.specs.LogImage.{AreBodies, committed_frames, log_front, frame_place, committed}
 
 pub bodies_append : (is_body : ℕ → List ℕ → Bool) (n k j : ℕ) (a b : List (List ℕ)) → j ≡ k + length a → AreBodies is_body n k a → AreBodies is_body n j b → AreBodies is_body n k (a ++ b)
 bodies_append is_body n k j [] b there first second = let here : j ≡ k = omega (arith, there) in subst (λ (i : ℕ). AreBodies is_body n i b) here second
@@ -43,16 +42,16 @@ next_place n k = let here : suc k ≡ k + 1 = omega arith in sym (mul-suc (n + 1
 
 -- the bodies in two parts
 pub log_front_append : (head : List ℕ) (a b : List (List ℕ)) → log_front head (a ++ b) ≡ log_front head a ++ committed_frames b
-log_front_append head a b = ap (λ (l : List ℕ). head ++ l) (flat_map-append (λ (body : List ℕ). COMMITTED ∷ body) a b) ∙ sym (append_assoc head (committed_frames a) (committed_frames b))
+log_front_append head a b = ap (λ (l : List ℕ). head ++ l) (flat_map-append (λ (body : List ℕ). committed ∷ body) a b) ∙ sym (append_assoc head (committed_frames a) (committed_frames b))
 
 -- one body more
-pub log_front_push : (head : List ℕ) (bodies : List (List ℕ)) (body : List ℕ) → log_front head (bodies ++ body ∷ []) ≡ log_front head bodies ++ COMMITTED ∷ body
-log_front_push head bodies body = log_front_append head bodies (body ∷ []) ∙ ap (λ (l : List ℕ). log_front head bodies ++ COMMITTED ∷ l) (append-nil body)
+pub log_front_push : (head : List ℕ) (bodies : List (List ℕ)) (body : List ℕ) → log_front head (bodies ++ body ∷ []) ≡ log_front head bodies ++ committed ∷ body
+log_front_push head bodies body = log_front_append head bodies (body ∷ []) ∙ ap (λ (l : List ℕ). log_front head bodies ++ committed ∷ l) (append-nil body)
 
 -- the commit byte behind some bytes
 pub commit_next : (bodies : List (List ℕ)) (next : ℕ) (rest : List ℕ) → (first : ℕ) × (more : List ℕ) × (committed_frames bodies ++ next ∷ rest ≡ first ∷ more)
 commit_next [] next rest = (next, rest, refl)
-commit_next (x ∷ bodies) next rest = (COMMITTED, x ++ committed_frames bodies ++ next ∷ rest, refl)
+commit_next (x ∷ bodies) next rest = (committed, x ++ committed_frames bodies ++ next ∷ rest, refl)
 
 -- frame k among the bytes: its body, behind its commit byte
 pub record Standing (is_body : ℕ → List ℕ → Bool) (head : List ℕ) (bodies : List (List ℕ)) (k : ℕ) (image : List ℕ) : Type 0 where
@@ -62,7 +61,7 @@ pub record Standing (is_body : ℕ → List ℕ → Bool) (head : List ℕ) (bod
   pub listed : slice_get bodies (k - 1) ≡ Some body
   pub long : length body ≡ length head
   pub place : length (log_front head (take (k - 1) bodies)) + 1 ≡ frame_place (length head) k
-  pub parts : image ≡ log_front head (take (k - 1) bodies) ++ COMMITTED ∷ (body ++ next ∷ more)
+  pub parts : image ≡ log_front head (take (k - 1) bodies) ++ committed ∷ (body ++ next ∷ more)
 
 listed_at : (i : ℕ) (xs : List (List ℕ)) (x : List ℕ) (ys : List (List ℕ)) → drop i xs ≡ x ∷ ys → slice_get xs i ≡ Some x
 listed_at zero [] x ys is = absurd (omega (arith, ap length is))
@@ -98,5 +97,5 @@ standing is_body head bodies k image next rest low high lawful parts =
           parts
           ∙ ap (λ (l : List ℕ). l ++ next ∷ rest) (ap (log_front head) whole ∙ log_front_append head front (back.first ∷ back.others))
           ∙ append_assoc (log_front head front) (committed_frames (back.first ∷ back.others)) (next ∷ rest)
-          ∙ ap (λ (l : List ℕ). log_front head front ++ COMMITTED ∷ l) (append_assoc back.first (committed_frames back.others) (next ∷ rest) ∙ ap (λ (l : List ℕ). back.first ++ l) is);
+          ∙ ap (λ (l : List ℕ). log_front head front ++ committed ∷ l) (append_assoc back.first (committed_frames back.others) (next ∷ rest) ∙ ap (λ (l : List ℕ). back.first ++ l) is);
     }

@@ -2,13 +2,12 @@
 use Rattle.std.proofs.Common.{◌≡◌, ◌⊎◌, inl, inr, ℕ, suc, ◌+◌, ◌<◌, Bool, true, List, [], ◌∷◌, ◌++◌, length, take, drop, refl, sym, ◌∙◌, ap, subst, arith, append_assoc}
 use Rattle.std.specs.Prelude.{slice_index}
 use Rattle.std.proofs.lemmas.List.{append_cancel_left, take_at, drop_at}
-use Rattle.commit_log.specs.declared.blocks.TheConstants.{COMMITTED}
-use Rattle.commit_log.specs.LogImage.{AreBodies, committed_frames, log_front}
+use Rattle.commit_log.specs.LogImage.{AreBodies, committed_frames, log_front, committed}
 use Rattle.commit_log.proofs.Bodies.{commit_next}
 
 -- These bodies and the commit byte behind them stop before one more frame, of this number.
 pub record StopsShort (is_body : ℕ → List ℕ → Bool) (n k : ℕ) (bodies : List (List ℕ)) (next : ℕ) (rest : List ℕ) (others : List (List ℕ)) : Type 0 where
-  pub commits : next ≡ COMMITTED
+  pub commits : next ≡ committed
   pub body : List ℕ
   pub behind : ℕ
   pub more : List ℕ

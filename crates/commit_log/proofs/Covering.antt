@@ -2,8 +2,7 @@
 use Rattle.std.proofs.Common.{◌≡◌, ◌≢◌, ◌⊎◌, inl, inr, ℕ, zero, suc, ◌+◌, ◌<◌, ◌≤◌, Bool, true, false, List, [], ◌∷◌, ◌++◌, length, get_or, take, drop, refl, sym, ◌∙◌, ap, arith, append_assoc, length-append, length-take, take-append-drop}
 use Rattle.std.proofs.lemmas.Bool.{cases_eq, cases_lt}
 use Rattle.std.proofs.lemmas.List.{append-nil, drop_more, take_at}
-use Rattle.commit_log.specs.declared.blocks.TheConstants.{COMMITTED}
-use Rattle.commit_log.specs.LogImage.{AreBodies, StandsForSome, IsForeign, IsDamagedSomewhere, NoFrame, log_front}
+use Rattle.commit_log.specs.LogImage.{AreBodies, StandsForSome, IsForeign, IsDamagedSomewhere, NoFrame, log_front, committed}
 use Rattle.commit_log.proofs.Bodies.{bodies_push, log_front_push}
 
 -- two lists of bytes are one or not
@@ -43,27 +42,27 @@ frame_or_none is_body n k bytes = elim (cases_lt n (length bytes)) [
 
 module _ (is_body : ℕ → List ℕ → Bool) (head image : List ℕ) (limit : ℕ) where
   -- the next frame is not committed
-  stood : (bodies : List (List ℕ)) (next : ℕ) (rest : List ℕ) → length bodies ≤ limit → AreBodies is_body (length head) 1 bodies → image ≡ log_front head bodies ++ next ∷ rest → next ≢ COMMITTED → Read is_body head limit image
+  stood : (bodies : List (List ℕ)) (next : ℕ) (rest : List ℕ) → length bodies ≤ limit → AreBodies is_body (length head) 1 bodies → image ≡ log_front head bodies ++ next ∷ rest → next ≢ committed → Read is_body head limit image
   stood bodies next rest within lawful parts other = inr (bodies, within, record { next = next; rest = rest; parts = parts; uncommitted = other; lawful = lawful })
 
   -- it is, and is not there
-  damaged : (bodies : List (List ℕ)) (rest : List ℕ) → length bodies ≤ limit → AreBodies is_body (length head) 1 bodies → image ≡ log_front head bodies ++ COMMITTED ∷ rest → (length bodies ≡ limit) ⊎ NoFrame is_body (length head) (length bodies + 1) rest → Read is_body head limit image
+  damaged : (bodies : List (List ℕ)) (rest : List ℕ) → length bodies ≤ limit → AreBodies is_body (length head) 1 bodies → image ≡ log_front head bodies ++ committed ∷ rest → (length bodies ≡ limit) ⊎ NoFrame is_body (length head) (length bodies + 1) rest → Read is_body head limit image
   damaged bodies rest within lawful parts broken = inl (length bodies + 1, record { bodies = bodies; rest = rest; parts = parts; lawful = lawful; number = refl; within = within; broken = broken })
 
   -- from some frame on, where so many more are within the limit
   read_on : (left : ℕ) (bodies : List (List ℕ)) (next : ℕ) (rest : List ℕ) → length bodies + left ≡ limit → AreBodies is_body (length head) 1 bodies → image ≡ log_front head bodies ++ next ∷ rest → Read is_body head limit image
-  read_on zero bodies next rest counts lawful parts = elim (cases_eq next COMMITTED) [
+  read_on zero bodies next rest counts lawful parts = elim (cases_eq next committed) [
     | inr other ↦ stood bodies next rest (omega (arith, counts)) lawful parts other
     | inl commits ↦ damaged bodies rest (omega (arith, counts)) lawful (parts ∙ ap (λ (b : ℕ). log_front head bodies ++ b ∷ rest) commits) (inl (omega (arith, counts)))
   ]
-  read_on (suc left) bodies next rest counts lawful parts = elim (cases_eq next COMMITTED) [
+  read_on (suc left) bodies next rest counts lawful parts = elim (cases_eq next committed) [
     | inr other ↦ stood bodies next rest (omega (arith, counts)) lawful parts other
     | inl commits ↦
         let n : ℕ = length head in
         let body : List ℕ = take n rest in
         let behind : ℕ = get_or rest n 0 in
         let more : List ℕ = drop (n + 1) rest in
-        let whole : image ≡ log_front head bodies ++ COMMITTED ∷ rest = parts ∙ ap (λ (b : ℕ). log_front head bodies ++ b ∷ rest) commits in
+        let whole : image ≡ log_front head bodies ++ committed ∷ rest = parts ∙ ap (λ (b : ℕ). log_front head bodies ++ b ∷ rest) commits in
         elim (frame_or_none is_body n (length bodies + 1) rest) [
           | inr none ↦ damaged bodies rest (omega (arith, counts)) lawful whole (inr none)
           | inl frame ↦
@@ -71,8 +70,8 @@ module _ (is_body : ℕ → List ℕ → Bool) (head image : List ℕ) (limit : 
               (omega (arith, counts, length-append bodies (body ∷ [])))
               (bodies_push is_body n (length bodies + 1) bodies body refl lawful (omega (arith, length-take n rest, frame.0)) frame.1)
               (whole
-              ∙ ap (λ (l : List ℕ). log_front head bodies ++ COMMITTED ∷ l) (at_byte n rest frame.0)
-              ∙ sym (append_assoc (log_front head bodies) (COMMITTED ∷ body) (behind ∷ more))
+              ∙ ap (λ (l : List ℕ). log_front head bodies ++ committed ∷ l) (at_byte n rest frame.0)
+              ∙ sym (append_assoc (log_front head bodies) (committed ∷ body) (behind ∷ more))
               ∙ ap (λ (l : List ℕ). l ++ behind ∷ more) (sym (log_front_push head bodies body)))
         ]
   ]

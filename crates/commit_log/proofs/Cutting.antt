@@ -6,8 +6,7 @@ use Rattle.crash_disk.specs.CrashOutcomes.{Torn, written}
 use Rattle.crash_disk.specs.Moments.{EachMoment}
 use Rattle.crash_disk.proofs.Runs.{weaker}
 use Rattle.crash_disk.proofs.TornBytes.{torn_byte, written_at}
-use Rattle.commit_log.specs.declared.blocks.TheConstants.{COMMITTED}
-use Rattle.commit_log.specs.LogImage.{StandsFor, log_front, frame_place}
+use Rattle.commit_log.specs.LogImage.{StandsFor, log_front, frame_place, committed}
 use Rattle.commit_log.specs.LogState.{StandsForEither}
 use Rattle.commit_log.proofs.Bodies.{Standing, standing, bodies_take}
 
@@ -28,8 +27,8 @@ module _ (is_body : ℕ → List ℕ → Bool) (head : List ℕ) (bodies : List 
   -- the frames from k on stay, or are cut off
   torn_cut : (c : List ℕ) → Torn at 1 image c → StandsForEither is_body head bodies front c
   torn_cut c torn =
-      let (byte, more, is) = torn_byte at (log_front head front) COMMITTED behind c commit_long (subst (λ (l : List ℕ). Torn at 1 l c) here.parts torn) in
-      elim (cases_eq byte COMMITTED) [
+      let (byte, more, is) = torn_byte at (log_front head front) committed behind c commit_long (subst (λ (l : List ℕ). Torn at 1 l c) here.parts torn) in
+      elim (cases_eq byte committed) [
         | inl commits ↦ inl (record {
           next = stands.next;
           rest = stands.rest ++ more;
@@ -53,7 +52,7 @@ module _ (is_body : ℕ → List ℕ → Bool) (head : List ℕ) (bodies : List 
   written_cut = record {
     next = 0;
     rest = behind;
-    parts = ap (written at (0 ∷ [])) here.parts ∙ written_at at (log_front head front) (0 ∷ []) (COMMITTED ∷ behind) commit_long ∙ append_assoc (log_front head front) (0 ∷ []) behind;
-    uncommitted = λ (zero_is : 0 ≡ COMMITTED). omega (arith, zero_is);
+    parts = ap (written at (0 ∷ [])) here.parts ∙ written_at at (log_front head front) (0 ∷ []) (committed ∷ behind) commit_long ∙ append_assoc (log_front head front) (0 ∷ []) behind;
+    uncommitted = λ (zero_is : 0 ≡ committed). omega (arith, zero_is);
     lawful = bodies_take is_body (length head) 1 (k - 1) bodies stands.lawful;
   }

@@ -2,8 +2,7 @@
 use Rattle.std.proofs.Common.{◌≡◌, inr, ℕ, ◌+◌, ◌≤◌, Bool, List, [], ◌∷◌, ◌++◌, length, Some, refl, sym, ◌∙◌, ap, subst, arith, append_assoc, length-append}
 use Rattle.std.proofs.lemmas.List.{append-nil}
 use Rattle.crash_disk.specs.DiskState.{DiskState}
-use Rattle.commit_log.specs.declared.blocks.TheConstants.{COMMITTED}
-use Rattle.commit_log.specs.LogImage.{AreBodies, IsDamaged, log_front, frame_place}
+use Rattle.commit_log.specs.LogImage.{AreBodies, IsDamaged, log_front, frame_place, committed}
 use Rattle.commit_log.specs.LogState.{with_body}
 use Rattle.commit_log.specs.Opening.{SoFar}
 use Rattle.commit_log.specs.Pieces.{ReadsFrame, ReadsNone}
@@ -23,19 +22,19 @@ record InFront (n k : ℕ) (head : List ℕ) (bodies : List (List ℕ)) (more im
   pub front : List ℕ
   pub place : length front ≡ frame_place n k
   pub parts : image ≡ front ++ more
-  pub whole : image ≡ log_front head bodies ++ COMMITTED ∷ more
+  pub whole : image ≡ log_front head bodies ++ committed ∷ more
 
-in_front : (is_body : ℕ → List ℕ → Bool) (n count next : ℕ) (head : List ℕ) (bodies : List (List ℕ)) (more image : List ℕ) → length head ≡ n → count ≡ length bodies → AreBodies is_body n 1 bodies → next ≡ COMMITTED → image ≡ log_front head bodies ++ next ∷ more → InFront n (count + 1) head bodies more image
+in_front : (is_body : ℕ → List ℕ → Bool) (n count next : ℕ) (head : List ℕ) (bodies : List (List ℕ)) (more image : List ℕ) → length head ≡ n → count ≡ length bodies → AreBodies is_body n 1 bodies → next ≡ committed → image ≡ log_front head bodies ++ next ∷ more → InFront n (count + 1) head bodies more image
 in_front is_body n count next head bodies more image long counts lawful commits parts =
-    let whole : image ≡ log_front head bodies ++ COMMITTED ∷ more = parts ∙ ap (λ (b : ℕ). log_front head bodies ++ b ∷ more) commits in
+    let whole : image ≡ log_front head bodies ++ committed ∷ more = parts ∙ ap (λ (b : ℕ). log_front head bodies ++ b ∷ more) commits in
     record {
-      front = log_front head bodies ++ COMMITTED ∷ [];
-      place = omega (arith, length-append (log_front head bodies) (COMMITTED ∷ []), length-log_front is_body n head (count + 1) bodies long (omega (arith, counts)) lawful);
-      parts = whole ∙ sym (append_assoc (log_front head bodies) (COMMITTED ∷ []) more);
+      front = log_front head bodies ++ committed ∷ [];
+      place = omega (arith, length-append (log_front head bodies) (committed ∷ []), length-log_front is_body n head (count + 1) bodies long (omega (arith, counts)) lawful);
+      parts = whole ∙ sym (append_assoc (log_front head bodies) (committed ∷ []) more);
       whole = whole;
     }
 
-module _ (is_body : ℕ → List ℕ → Bool) (before after : List (List ℕ) → Type 0) (n first count next : ℕ) (s t : DiskState) (commits : next ≡ COMMITTED) (same : t.content ≡ s.content) (so_far : SoFar is_body before n first count next s) where
+module _ (is_body : ℕ → List ℕ → Bool) (before after : List (List ℕ) → Type 0) (n first count next : ℕ) (s t : DiskState) (commits : next ≡ committed) (same : t.content ≡ s.content) (so_far : SoFar is_body before n first count next s) where
   -- one frame more
   pub one_more : (behind : ℕ) → ReadsFrame is_body before after t n (count + 1) behind → SoFar is_body after n first (count + 1) behind s
   one_more behind read = record {
@@ -49,8 +48,8 @@ module _ (is_body : ℕ → List ℕ → Bool) (before after : List (List ℕ) �
         let (left, is) = read.shown there.front more there.place (same ∙ told ∙ ap (λ (l : List ℕ). Some l) there.parts) in (
           left,
           there.whole
-              ∙ ap (λ (l : List ℕ). log_front head so_far.bodies ++ COMMITTED ∷ l) is
-              ∙ sym (append_assoc (log_front head so_far.bodies) (COMMITTED ∷ read.body) (behind ∷ left))
+              ∙ ap (λ (l : List ℕ). log_front head so_far.bodies ++ committed ∷ l) is
+              ∙ sym (append_assoc (log_front head so_far.bodies) (committed ∷ read.body) (behind ∷ left))
               ∙ ap (λ (l : List ℕ). l ++ behind ∷ left) (sym (log_front_push head so_far.bodies read.body)),
         );
   }

@@ -2,8 +2,7 @@
 use Rattle.std.proofs.Common.{◌≡◌, ℕ, ◌-◌, ◌<◌, ◌≤◌, Bool, List, [], ◌∷◌, ◌++◌, length, take, drop, Some, sym, ◌∙◌, ap, arith, append_assoc, length-append, length-take}
 use Rattle.std.specs.Prelude.{slice_get}
 use Rattle.std.proofs.lemmas.List.{take_all, take_at, drop_at}
-use Rattle.commit_log.specs.declared.blocks.TheConstants.{COMMITTED}
-use Rattle.commit_log.specs.LogImage.{log_front, frame_place}
+use Rattle.commit_log.specs.LogImage.{log_front, frame_place, committed}
 use Rattle.commit_log.proofs.Bodies.{Standing}
 
 module _ (is_body : ℕ → List ℕ → Bool) (head : List ℕ) (bodies : List (List ℕ)) (k : ℕ) (image : List ℕ) (s : Standing is_body head bodies k image) where
@@ -11,8 +10,8 @@ module _ (is_body : ℕ → List ℕ → Bool) (head : List ℕ) (bodies : List 
   pub behind_place : (place : ℕ) → place ≡ frame_place (length head) k → drop place image ≡ s.body ++ s.next ∷ s.more
   behind_place place is =
       let front : List ℕ = log_front head (take (k - 1) bodies) in
-      let parted : image ≡ (front ++ COMMITTED ∷ []) ++ (s.body ++ s.next ∷ s.more) = s.parts ∙ sym (append_assoc front (COMMITTED ∷ []) (s.body ++ s.next ∷ s.more)) in
-      ap (λ (l : List ℕ). drop place l) parted ∙ drop_at (front ++ COMMITTED ∷ []) (s.body ++ s.next ∷ s.more) place (omega (arith, is, s.place, length-append front (COMMITTED ∷ [])))
+      let parted : image ≡ (front ++ committed ∷ []) ++ (s.body ++ s.next ∷ s.more) = s.parts ∙ sym (append_assoc front (committed ∷ []) (s.body ++ s.next ∷ s.more)) in
+      ap (λ (l : List ℕ). drop place l) parted ∙ drop_at (front ++ committed ∷ []) (s.body ++ s.next ∷ s.more) place (omega (arith, is, s.place, length-append front (committed ∷ [])))
 
   module _ (buffer : List ℕ) (count place : ℕ) (is : place ≡ frame_place (length head) k) (long : length buffer ≡ length head) (read : take count buffer ≡ take (length buffer) (drop place image)) where
     body_read : take count buffer ≡ s.body

@@ -1,15 +1,18 @@
 -- Which bodies the bytes of a log stand for.
 use Rattle.std.specs.Prelude.{◌≡◌, ◌≢◌, ◌⊎◌, ℕ, suc, ◌+◌, ◌*◌, ◌≤◌, Bool, true, List, [], ◌∷◌, ◌++◌, length}
 use Rattle.std.specs.List.{flat_map}
-use Rattle.commit_log.specs.declared.blocks.TheConstants.{COMMITTED}
 
 -- where frame k stands, where bodies have n bytes
 abbrev pub frame_place : ℕ → ℕ → ℕ
 frame_place n k = (n + 1) * k
 
+-- A commit byte of this value, 0xA5, commits the frame behind it. Any other does not.
+abbrev pub committed : ℕ
+committed = 165
+
 -- these bodies, each behind a byte that commits it
 abbrev pub committed_frames : List (List ℕ) → List ℕ
-committed_frames bodies = flat_map (λ (body : List ℕ). COMMITTED ∷ body) bodies
+committed_frames bodies = flat_map (λ (body : List ℕ). committed ∷ body) bodies
 
 -- what stands before the commit byte of the next frame: the head, and the frames before that one
 abbrev pub log_front : List ℕ → List (List ℕ) → List ℕ
@@ -25,7 +28,7 @@ pub record StandsFor (is_body : ℕ → List ℕ → Bool) (head : List ℕ) (bo
   pub next : ℕ
   pub rest : List ℕ
   pub parts : image ≡ log_front head bodies ++ next ∷ rest
-  pub uncommitted : next ≢ COMMITTED
+  pub uncommitted : next ≢ committed
   pub lawful : AreBodies is_body (length head) 1 bodies
 
 -- The image begins otherwise than with the head and a commit byte.
@@ -40,7 +43,7 @@ NoFrame is_body n k bytes = (body : List ℕ) (next : ℕ) (more : List ℕ) →
 pub record IsDamaged (is_body : ℕ → List ℕ → Bool) (head : List ℕ) (limit k : ℕ) (image : List ℕ) : Type 0 where
   pub bodies : List (List ℕ)
   pub rest : List ℕ
-  pub parts : image ≡ log_front head bodies ++ COMMITTED ∷ rest
+  pub parts : image ≡ log_front head bodies ++ committed ∷ rest
   pub lawful : AreBodies is_body (length head) 1 bodies
   pub number : k ≡ length bodies + 1
   pub within : length bodies ≤ limit

@@ -31,7 +31,7 @@ limit_of log = log.limit
 abbrev pub count_of : {D R : Type 0} → Log D R → ℕ
 count_of log = log.count
 
--- whether its disk has not failed in a call that writes
+-- no append or cut failed since it was opened, and it was opened again where that was asked
 abbrev pub is_usable : {D R : Type 0} → Log D R → Bool
 is_usable log = log.usable
 

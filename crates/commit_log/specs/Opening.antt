@@ -2,8 +2,7 @@
 use Rattle.std.specs.Prelude.{◌≡◌, ◌≢◌, ℕ, Bool, List, ◌++◌, ◌∷◌, length, Option, Some, None, Result, Ok, Err}
 use Rattle.ali_base.specs.Faults.{Rose}
 use Rattle.crash_disk.specs.DiskState.{DiskState}
-use Rattle.commit_log.specs.declared.blocks.TheConstants.{COMMITTED}
-use Rattle.commit_log.specs.LogImage.{AreBodies, IsForeign, IsDamaged, log_front}
+use Rattle.commit_log.specs.LogImage.{AreBodies, IsForeign, IsDamaged, log_front, committed}
 use Rattle.commit_log.specs.LogState.{Keeps}
 use Rattle.commit_log.specs.declared.pieces.Behind.{Behind}
 use Rattle.commit_log.specs.declared.opening.OpenFault.{OpenFault}
@@ -39,7 +38,7 @@ pub record SoFar (is_body : ℕ → List ℕ → Bool) (holds : List (List ℕ) 
 -- All of them were read: they end at a byte that commits nothing.
 pub record AllRead (is_body : ℕ → List ℕ → Bool) (holds : List (List ℕ) → Type 0) (n first count : ℕ) (s : DiskState) : Type 0 where
   pub next : ℕ
-  pub uncommitted : next ≢ COMMITTED
+  pub uncommitted : next ≢ committed
   pub so_far : SoFar is_body holds n first count next s
 
 -- what a refusal behind the first block says

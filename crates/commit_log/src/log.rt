@@ -133,8 +133,7 @@ impl<D: Disk + Drop, R: BodyReader> Log<D, R> {
         self.limit
     }
 
-    /// False once an append, a cut or an opening was refused by the disk, until the log is opened
-    /// again.
+    /// False once an append or a cut failed, or the log was not opened again, until it is opened.
     pub fn usable(&self) -> bool
         ensures { result ≡ is_usable self.now }
     {

@@ -112,9 +112,10 @@ fn a_log_keeps_its_frames(rt: HostRuntime) -> Result<(), Fail> {
     assert_eq!(rt; log.len(), 1);
     assert_eq!(rt; add(&mut log, 5), Some(Ok(2)));
     assert_eq!(rt; body(&mut log, 2), Some([2, 5, 5, 5, 5, 5, 5]));
+    assert!(rt; cut(&mut log, 2));
     let disk = log.close();
     let wanted =
-        b"LOGHEAD\xA5\x01\x01\x01\x01\x01\x01\x01\xA5\x02\x05\x05\x05\x05\x05\x05\x00\x03\x03\x03\x03\x03\x03\x03\x00";
+        b"LOGHEAD\xA5\x01\x01\x01\x01\x01\x01\x01\x00\x02\x05\x05\x05\x05\x05\x05\x00\x03\x03\x03\x03\x03\x03\x03\x00";
     assert_eq!(rt; disk.bytes(), wanted.as_slice());
     Ok(())
 }

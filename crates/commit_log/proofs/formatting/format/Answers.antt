@@ -3,8 +3,7 @@ use Rattle.std.specs.Prelude.{IfSome}
 use Rattle.std.proofs.lemmas.List.{append-nil, drop_all, nil_from_length}
 use Rattle.crash_disk.specs.CrashOutcomes.{written}
 use Rattle.crash_disk.proofs.TornBytes.{written_at}
-use Rattle.commit_log.specs.declared.blocks.TheConstants.{COMMITTED}
-use Rattle.commit_log.specs.LogImage.{StandsFor}
+use Rattle.commit_log.specs.LogImage.{StandsFor, committed}
 use Rattle.commit_log.specs.LogState.{body_of}
 use Rattle.commit_log.proofs.formatting.format.Goals as goal
 
@@ -20,7 +19,7 @@ formatted is_body head block f none is = record {
       ∙ append-nil block
       ∙ is
       ∙ ap (λ (l : List ℕ). l ++ 0 ∷ []) (sym (append-nil head));
-  uncommitted = λ (zero_is : 0 ≡ COMMITTED). omega (arith, zero_is);
+  uncommitted = λ (zero_is : 0 ≡ committed). omega (arith, zero_is);
   lawful = tt;
 }
 

@@ -1,12 +1,11 @@
 use Rattle.std.proofs.Common.{◌≡◌, ◌≤◌, ◌+◌, inl, inr, ℕ, Bool, true, List, length, ap, subst, arith}
-use Rattle.commit_log.specs.declared.blocks.TheConstants.{COMMITTED}
-use Rattle.commit_log.specs.LogImage.{IsDamaged}
+use Rattle.commit_log.specs.LogImage.{IsDamaged, committed}
 use Rattle.commit_log.proofs.Comparing.{compare_images, begins, StopsShort}
 use Rattle.commit_log.proofs.Covering.{read_some_way}
 use Rattle.commit_log.proofs.laws.an_image_is_read_one_way.Goals as goal
 
 -- no frame follows a damage
-ends_there : (is_body : ℕ → List ℕ → Bool) (head : List ℕ) (limit k : ℕ) (image : List ℕ) (d : IsDamaged is_body head limit k image) (others : List (List ℕ)) → length others ≤ limit → StopsShort is_body (length head) 1 d.bodies COMMITTED d.rest others → ⊥
+ends_there : (is_body : ℕ → List ℕ → Bool) (head : List ℕ) (limit k : ℕ) (image : List ℕ) (d : IsDamaged is_body head limit k image) (others : List (List ℕ)) → length others ≤ limit → StopsShort is_body (length head) 1 d.bodies committed d.rest others → ⊥
 ends_there is_body head limit k image d others within s = elim d.broken [
   | inl full ↦ omega (arith, full, s.fewer, within)
   | inr none ↦
@@ -21,20 +20,20 @@ pub returns-clause-not_foreign : goal.returns-clause-not_foreign
 returns-clause-not_foreign g c head image bodies s foreign = let there = begins head image bodies s.next s.rest s.parts in foreign there.0 there.1 there.2
 
 pub returns-clause-not_both : goal.returns-clause-not_both
-returns-clause-not_both g c head image limit foreign damaged = let d = damaged.1 in let there = begins head image d.bodies COMMITTED d.rest d.parts in foreign there.0 there.1 there.2
+returns-clause-not_both g c head image limit foreign damaged = let d = damaged.1 in let there = begins head image d.bodies committed d.rest d.parts in foreign there.0 there.1 there.2
 
 pub returns-clause-not_damaged : goal.returns-clause-not_damaged
 returns-clause-not_damaged g c head image limit stands damaged =
     let s = stands.2 in
     let d = damaged.1 in
-    elim (compare_images g.R.BodyReader.is_body head image stands.0 s.next s.rest d.bodies COMMITTED d.rest s.lawful d.lawful s.parts d.parts) [
+    elim (compare_images g.R.BodyReader.is_body head image stands.0 s.next s.rest d.bodies committed d.rest s.lawful d.lawful s.parts d.parts) [
       | inl equal ↦ s.uncommitted equal.1
       | inr (inl short) ↦ s.uncommitted short.commits
       | inr (inr short) ↦ ends_there g.R.BodyReader.is_body head limit damaged.0 image d stands.0 stands.1 short
     ]
 
 pub returns-clause-one_damage : goal.returns-clause-one_damage
-returns-clause-one_damage g c head image limit j k d e = elim (compare_images g.R.BodyReader.is_body head image d.bodies COMMITTED d.rest e.bodies COMMITTED e.rest d.lawful e.lawful d.parts e.parts) [
+returns-clause-one_damage g c head image limit j k d e = elim (compare_images g.R.BodyReader.is_body head image d.bodies committed d.rest e.bodies committed e.rest d.lawful e.lawful d.parts e.parts) [
   | inl equal ↦ omega (arith, d.number, e.number, ap (λ (l : List (List ℕ)). length l) equal.0)
   | inr (inl short) ↦ absurd (ends_there g.R.BodyReader.is_body head limit j image d e.bodies e.within short)
   | inr (inr short) ↦ absurd (ends_there g.R.BodyReader.is_body head limit k image e d.bodies d.within short)
