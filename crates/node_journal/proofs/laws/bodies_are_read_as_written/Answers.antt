@@ -1,0 +1,14 @@
+use Rattle.ali_base.proofs.FrontsAgain.{all_bytes}
+use Rattle.node_journal.proofs.FramesOfBytes.{is_body-body, body_found, one_frame}
+use Rattle.node_journal.proofs.laws.bodies_are_read_as_written.Goals as goal
+
+pub returns-clause-back : goal.returns-clause-back
+returns-clause-back c = is_body-body
+
+pub returns-clause-only : goal.returns-clause-only
+returns-clause-only c k bytes all len is =
+    let found = body_found k bytes (all_bytes bytes all) is in
+    (found.0, found.1.lawful, found.1.spelled)
+
+pub returns-clause-one : goal.returns-clause-one
+returns-clause-one c = one_frame

@@ -1,0 +1,6 @@
+pub mod FrameBytes
+pub mod JournalImage
+pub mod JournalState
+pub mod EpochsRead
+pub mod OpenJournal
+pub mod Formatting
