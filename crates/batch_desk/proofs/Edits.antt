@@ -76,12 +76,10 @@ stays_fold : (s : State) (more : List Entry) → IsKept s → AreDue s more → 
 stays_fold s [] kept due editor = inl refl
 stays_fold s (e ∷ more) kept due editor = stays_on _ _ _ (stays_after s e kept due.0 due.1 editor) (stays_fold (after s e) more (kept_after s e kept due.1) due.2 editor)
 
--- an edit that is complete twice is its editor's last with the same answer
-pub same_edit : (s : State) (more : List Entry) → IsKept s → AreDue s more → (editor serial : ℕ) (edit : Edit) → edit_standing s editor serial edit ≡ Ok Complete → let later = fold after s more in edit_standing later editor serial edit ≡ Ok Complete → last_edit editor later.edits ≡ last_edit editor s.edits
+-- an edit that is complete, and whose serial is later still its editor's last, is that one with the same answer
+pub same_edit : (s : State) (more : List Entry) → IsKept s → AreDue s more → (editor serial : ℕ) (edit : Edit) → edit_standing s editor serial edit ≡ Ok Complete → let later = fold after s more in last_serial (last_edit editor later.edits) ≡ serial → last_edit editor later.edits ≡ last_edit editor s.edits
 same_edit s more kept due editor serial edit first second = at (stays_fold s more kept due editor)
   where
     at : let later = fold after s more in StaysOrRises (last_edit editor s.edits) (last_edit editor later.edits) → last_edit editor later.edits ≡ last_edit editor s.edits
     at (inl same) = same
-    at (inr up) = (
-        let later = fold after s more in
-        absurd (omega (arith, up, complete_edit (last_edit editor s.edits) serial (edit_digest edit) first, complete_edit (last_edit editor later.edits) serial (edit_digest edit) second)))
+    at (inr up) = absurd (omega (arith, up, complete_edit (last_edit editor s.edits) serial (edit_digest edit) first, second))

@@ -9,7 +9,7 @@ use Rattle.batch_frame.specs.CarrierFile.{CarrierFile, IsRecord, separator_of, p
 use Rattle.batch_frame.specs.FrameFault.{frame_fault, file_of, found}
 use Rattle.batch_frame.proofs.Cutting.{records_in-length}
 use Rattle.batch_frame.proofs.Readings.{file_of_read}
-use Rattle.sequence_once.specs.KeptCycles.{CycleRecord, IsSound, count_of}
+use Rattle.sequence_once.specs.KeptCycles.{CycleRecord, IsSound, codes_of, count_of}
 use Rattle.sequence_once.specs.CycleStanding.{standing_of}
 use Rattle.sequence_once.specs.declared.standing.Standing.{Standing}
 use Rattle.sequence_once.specs.declared.standing.Standing.TheVariants.{New, Resume, Complete}
@@ -143,6 +143,20 @@ complete_length s bytes e =
     let old = old_file s bytes Complete (λ h. cc) e in
     let codes = complete_codes s file.company file.cycle (sha256 bytes) old.stands file.count old.counted in
     ap (λ (o : Option (List ℕ)). length (unwrap_or o [])) codes.1 ∙ codes.2
+
+-- a complete file is complete as long as its cycle is kept with these codes
+pub stays_file : (s later : State) (bytes : List ℕ) → file_standing s bytes ≡ Ok Complete → let file = file_of bytes in standing_of later.cycles file.company file.cycle (sha256 bytes) ≡ Ok Complete
+    → codes_of file.company file.cycle later.cycles.kept ≡ codes_of file.company file.cycle s.cycles.kept → file_standing later bytes ≡ Ok Complete
+stays_file s later bytes e stands same =
+    let file = file_of bytes in
+    let old = old_file s bytes Complete (λ h. cc) e in
+    let codes = complete_codes s file.company file.cycle (sha256 bytes) old.stands file.count old.counted in
+    let kept = kept_file later.cycles file.company file.cycle (sha256 bytes) Complete (λ h. cc) stands in
+    let counted = ap (option_map (λ (k : CycleRecord). k.count)) kept.there in
+    let again = complete_codes later file.company file.cycle (sha256 bytes) stands kept.kept.count counted in
+    let one : again.0 ≡ codes.0 = cc (again.1, same, codes.1) in
+    let count : kept.kept.count ≡ file.count = omega (arith, again.2, codes.2, ap length one) in
+    by_cycle later bytes (counted ∙ ap (λ (n : ℕ). Some n) count) ∙ stands
 
 -- the lines of a file from this one on: this one, and those behind it
 pub first_line : (file : CarrierFile) (line : ℕ) → 1 ≤ line → line ≤ length file.records → lines_from file line ≡ line_entry file line ∷ lines_from file (line + 1)

@@ -1,8 +1,9 @@
 -- Jobs: what was read last, and is to be booked: a carrier's file, or an editor's edit.
-use Rattle.std.specs.Prelude.{◌≡◌, List, length, None, Result}
-use Rattle.sequence_once.specs.KeptCycles.{IsSound}
+use Rattle.std.specs.Prelude.{◌≡◌, List, length, None, Result, IsSome}
+use Rattle.sequence_once.specs.KeptCycles.{IsSound, codes_of}
+use Rattle.sequence_once.specs.SerialStanding.{last_edit, last_serial}
 use Rattle.ali_base.specs.Editors.{IsEditor, IsSerial}
-use Rattle.batch_frame.specs.FrameFault.{frame_fault}
+use Rattle.batch_frame.specs.FrameFault.{frame_fault, file_of}
 use Rattle.sequence_once.specs.declared.standing.Standing.{Standing}
 use Rattle.sequence_once.specs.declared.standing.CycleFault.{CycleFault}
 use Rattle.office_entry.specs.Edits.{IsEdit}
@@ -34,6 +35,11 @@ next_of s (Edit editor serial edit) = next_edit (entry.Edit editor serial edit) 
 abbrev pub entries_left : State → Job → List Entry
 entries_left s (File bytes) = left_by bytes (file_standing s bytes)
 entries_left s (Edit editor serial edit) = left_edit (entry.Edit editor serial edit) (edit_standing s editor serial edit)
+
+-- what was booked of a job is still kept: the cycle of a file, and an edit as its editor's last
+abbrev pub IsStillKept : State → Job → Type 0
+IsStillKept s (File bytes) = let file = file_of bytes in IsSome (codes_of file.company file.cycle s.cycles.kept)
+IsStillKept s (Edit editor serial edit) = last_serial (last_edit editor s.edits) ≡ serial
 
 -- what the next entry of a job rests on: for a file sound cycles, for an edit a place for its editor
 abbrev pub IsReady : State → Job → Type 0

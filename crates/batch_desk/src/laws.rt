@@ -6,17 +6,22 @@ ghost use Rattle.office_entry.specs.declared.entry.Entry.{Entry};
 ghost use Rattle.office_state.specs.declared.limits.Limits.{Limits};
 ghost use Rattle.office_state.specs.History.{IsLegal, state};
 ghost use Rattle.batch_desk.specs.declared.job.Job.{Job};
-ghost use Rattle.batch_desk.specs.Jobs.{IsJob, job_standing, entries_left};
+ghost use Rattle.batch_desk.specs.Jobs.{IsJob, IsStillKept, job_standing, entries_left};
 ghost use Rattle.batch_desk.specs.JobReplies.{job_reply};
 
-/// A complete job that is read again while it is complete has nothing left to be booked, and gets the
-/// same reply, byte for byte, whatever was booked between.
+/// A complete job stays complete as long as what was booked of it is kept, whatever is booked behind it:
+/// read again then, it has nothing left to be booked, and gets the same reply, byte for byte.
 pub fn complete_jobs_repeat()
     ensures nothing { (limits : Limits) (history : List Entry) (job : Job) → job_standing (state limits history) job ≡ Ok Complete → entries_left (state limits history) job ≡ [] }
+    ensures complete { (limits : Limits) (history more : List Entry) (job : Job)
+        → IsLegal limits (history ++ more)
+        → job_standing (state limits history) job ≡ Ok Complete
+        → IsStillKept (state limits (history ++ more)) job
+        → job_standing (state limits (history ++ more)) job ≡ Ok Complete }
     ensures same { (limits : Limits) (history more : List Entry) (job : Job)
         → IsLegal limits (history ++ more)
         → job_standing (state limits history) job ≡ Ok Complete
-        → job_standing (state limits (history ++ more)) job ≡ Ok Complete
+        → IsStillKept (state limits (history ++ more)) job
         → job_reply (state limits (history ++ more)) job ≡ job_reply (state limits history) job }
 {}
 

@@ -14,4 +14,4 @@ pub use laws::{complete_jobs_repeat, jobs_can_be_completed};
 pub use reply_line::{
     EditDone, FileDone, FileRead, JobDone, JobRead, done_line, frame_line, read_line, refusal_line,
 };
-pub use submit::{SubmitFault, submit_edit, submit_file};
+pub use submit::{SubmitFault, submit_edit, submit_file, submit_lent};

@@ -1,5 +1,5 @@
 //! Files and edits that become jobs.
-ghost use Rattle.std.specs.Prelude.{◌≡◌, None, MatchResult, IsOk};
+ghost use Rattle.std.specs.Prelude.{◌≡◌, None, MatchResult, IfOk, IsOk};
 ghost use Rattle.sha2.specs.Sha256.{sha256};
 ghost use Rattle.batch_frame.specs.FrameFault.{frame_fault, file_of};
 ghost use Rattle.batch_frame.specs.Told.{frame_of};
@@ -9,11 +9,12 @@ ghost use Rattle.batch_desk.specs.EditJobs.{edit_standing};
 
 use crate::desk::view_standing;
 use crate::job::{FileJob, Job};
-use ali_base::{Editor, Serial};
+use ali_base::{Editor, NoMemory, Serial};
 use batch_frame::{FileFrame, FrameFault, read_file};
 use office_entry::Edit;
 use office_state::{DueFault, Office};
 use sequence_once::digest;
+use std::alloc::Global;
 
 /// Why a file or an edit is no job.
 #[derive(Clone, Copy, Debug, PartialEq, Eq)]
@@ -43,6 +44,29 @@ pub fn submit_file(office: &Office, bytes: Vec<u8>) -> Result<Job, (Vec<u8>, Sub
         }
         Err(fault) => Err((bytes, fault)),
     }
+}
+
+/// Makes a job of a carrier's file that is lent, as `submit_file` does of one that is given. A copy is
+/// taken of a file that becomes a job, and of no other.
+pub fn submit_lent(
+    alloc: Global,
+    office: &Office,
+    content: &[u8],
+) -> Result<Result<Job, SubmitFault>, NoMemory>
+    ensures { IfOk result (λ told. MatchResult told
+        (λ job. (job ≡ Job.File content.now) × (frame_fault content.now ≡ None) × IsOk (file_standing office.now.state content.now))
+        (λ fault. IsSubmitFault office.now.state content.now fault)) }
+{
+    let judged = match judge_file(office, content) {
+        Ok(judged) => judged,
+        Err(fault) => return Ok(Err(fault)),
+    };
+    let bytes = content.to_vec(alloc)?;
+    Ok(Ok(Job::File(FileJob::of_file(
+        bytes,
+        judged.frame,
+        judged.digest,
+    ))))
 }
 
 /// Makes a job of an editor's edit that may be booked next or is complete. Takes no memory and changes

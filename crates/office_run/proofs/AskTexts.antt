@@ -10,7 +10,8 @@ use Rattle.std.proofs.lemmas.Option.{cond_some}
 use Rattle.std.proofs.lemmas.Slice.Eq.{bytes_eq-Decides}
 use Rattle.std.proofs.lemmas.List.Elements.{recursion_from_All, All-from_recursion}
 use Rattle.ali_base.specs.TelephoneNumber.{tn_of, IsTn, IsDigit}
-use Rattle.office_run.specs.ScriptGrammar.{Command, Ask, ask_text, IsAsk}
+use Rattle.office_run.specs.ScriptGrammar.{ask_text}
+use Rattle.command_machine.specs.Commands.{Command, Ask, IsAsk}
 use Rattle.ali_base.proofs.Steps.{bind_ok}
 use Rattle.text_line.specs.WordReading.{number_of, split_once}
 use Rattle.text_line.proofs.NumberTexts.{number_of-decimal, decimal-number_of}

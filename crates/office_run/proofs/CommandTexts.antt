@@ -8,7 +8,8 @@ use Rattle.std.proofs.lemmas.Slice.Eq.{bytes_eq-Decides}
 use Rattle.ali_base.specs.Editors.{IsEditor, IsSerial}
 use Rattle.office_entry.specs.declared.edit.Edit.{Edit as GuideEdit}
 use Rattle.office_entry.specs.EditText.{IsEditText}
-use Rattle.office_run.specs.ScriptGrammar.{Command, Ask, File, Edit, Next, Batch, ask_text, file_text, edit_text, file_limit, IsAsk, IsCommand, BeginsLine, Spelled, BeginsWith}
+use Rattle.office_run.specs.ScriptGrammar.{ask_text, file_text, edit_text, BeginsLine, Spelled, BeginsWith}
+use Rattle.command_machine.specs.Commands.{Command, Ask, File, Edit, Next, Batch, file_limit, IsAsk, IsCommand}
 use Rattle.office_run.specs.ScriptReading.{ask_of, line_at, ask_or_edit, file_length_of, file_or_other, command_of_line, command_at}
 use Rattle.ali_base.proofs.Steps.{bind_ok, some_is}
 use Rattle.text_line.proofs.Splits.{Clear, Clear-append, decimal_clear}

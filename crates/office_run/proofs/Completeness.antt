@@ -1,7 +1,8 @@
 -- Where nothing fails, all of a script is done.
 use Rattle.std.proofs.Common.{◌≡◌, ◌≢◌, ℕ, ◌≤◌, List, ◌++◌, length, refl, ap, sym, ◌∙◌, subst, arith, Option, Some, None, append-nil, length-append}
 use Rattle.std.specs.Io.KnownBytes.{Consumes, IsAtEnd}
-use Rattle.office_run.specs.ScriptGrammar.{Command, IsScript, StopsAfter}
+use Rattle.office_run.specs.ScriptGrammar.{IsScript, StopsAfter}
+use Rattle.command_machine.specs.Commands.{Command}
 use Rattle.office_run.specs.ScriptInput.{script_limit, TookTooMany}
 use Rattle.office_run.specs.Exit.{Exit, StoppedAt, IsDoneOrNoMemory, Completes}
 use Rattle.office_run.specs.declared.status.Status.{Status}

@@ -18,7 +18,8 @@ use Rattle.office_entry.specs.Edits.{IsEdit}
 use Rattle.office_entry.specs.EditText.{is_sent_byte, StreetTexts, AreStreetTexts, street_text, difference_text, Spells, IsEditText}
 use Rattle.office_entry.specs.EditReading.{edit_of_text}
 use Rattle.office_entry.proofs.EditTexts.{text_read, text_again}
-use Rattle.office_run.specs.ScriptGrammar.{Command, Edit, edit_text}
+use Rattle.office_run.specs.ScriptGrammar.{edit_text}
+use Rattle.command_machine.specs.Commands.{Command, Edit}
 use Rattle.ali_base.proofs.Steps.{bind_ok}
 use Rattle.text_line.specs.WordReading.{number_of, split_once}
 use Rattle.text_line.proofs.NumberTexts.{number_of-decimal, decimal-number_of}

@@ -9,7 +9,8 @@ use Rattle.std.proofs.lemmas.List.{take-append-drop, length-take-le}
 use Rattle.std.proofs.lemmas.Option.{cond_some, some_pair_parts}
 use Rattle.std.proofs.lemmas.Slice.Eq.{bytes_eq-Decides}
 use Rattle.ali_base.specs.Steps.{when}
-use Rattle.office_run.specs.ScriptGrammar.{Command, File, LineEnds, BeginsLine, ask_text, file_text, file_limit}
+use Rattle.office_run.specs.ScriptGrammar.{LineEnds, BeginsLine, ask_text, file_text}
+use Rattle.command_machine.specs.Commands.{Command, File, file_limit}
 use Rattle.ali_base.proofs.Steps.{bind_ok}
 use Rattle.text_line.specs.WordReading.{number_of, split_once}
 use Rattle.text_line.proofs.NumberTexts.{number_of-decimal, decimal-number_of}

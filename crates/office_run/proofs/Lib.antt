@@ -1,13 +1,9 @@
 pub mod AskTexts
 pub mod CommandTexts
-pub mod FileTexts
+pub mod Completeness
 pub mod EditTexts
+pub mod FileTexts
 pub mod LineTexts
 pub mod Scripts
-pub mod Results
-pub mod Taking
-pub mod Completeness
-pub mod Desks
-pub mod Machines
-pub mod Commands
 pub mod Serving
+pub mod Taking

@@ -1,18 +1,12 @@
 -- A script has one reading.
 use Rattle.std.proofs.Common.{◌≡◌, ℕ, ◌+◌, ◌≤◌, List, [], ◌∷◌, ◌++◌, length, None, codes, arith, refl, ap, sym, ◌∙◌, subst}
 use Rattle.std.proofs.lemmas.Option.{some_pair_parts}
-use Rattle.office_run.specs.ScriptGrammar.{Command, Ask, File, Edit, Next, Batch, ask_text, file_text, edit_text, BeginsWith, Reads, IsScript, StopsAfter}
+use Rattle.office_run.specs.ScriptGrammar.{ask_text, file_text, edit_text, BeginsWith, Reads, IsScript, StopsAfter}
+use Rattle.command_machine.specs.Commands.{Command, Ask, File, Edit, Next, Batch}
 use Rattle.office_run.specs.ScriptReading.{command_at}
 use Rattle.office_run.proofs.CommandTexts.{command_at-begins}
+use Rattle.command_machine.proofs.Machines.{size}
 use Rattle.office_run.proofs.LineTexts.{line_size}
-
--- at least so many bytes spell a command
-abbrev pub size : Command → ℕ
-size (Ask position tn since) = 1
-size (File content) = length content + 1
-size (Edit editor serial edit) = 1
-size Next = 1
-size Batch = 1
 
 -- the bytes of a command are counted
 pub begins-size : (bytes : List ℕ) (command : Command) (rest : List ℕ) → BeginsWith bytes command rest → size command + length rest ≤ length bytes

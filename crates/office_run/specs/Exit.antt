@@ -1,10 +1,12 @@
 -- How a run ends: what was taken of the source and put into the sink, by the status.
-use Rattle.std.specs.Prelude.{◌≡◌, ℕ, ◌+◌, ◌<◌, ◌≤◌, List, [], ◌∷◌, ◌++◌, length, take, Option, Some}
-use Rattle.std.specs.Io.KnownBytes.{Appends, Consumes, Keeps}
-use Rattle.office_run.specs.ScriptGrammar.{Command, Reads, IsScript, StopsAfter}
-use Rattle.office_run.specs.Replies.{reply_text}
-use Rattle.office_run.specs.Machine.{start, reply, replies_text, after_all}
-use Rattle.office_run.specs.ScriptInput.{script_limit, TookAll, TookPart, TookTooMany}
+use Rattle.std.specs.Prelude.{◌≡◌, ◌⊎◌, ℕ, ◌+◌, ◌<◌, ◌≤◌, List, [], ◌∷◌, ◌++◌, length, take, Option, Some}
+use Rattle.std.specs.Io.KnownBytes.{Appends, Keeps}
+use Rattle.office_run.specs.ScriptGrammar.{Reads, IsScript, StopsAfter}
+use Rattle.command_machine.specs.Commands.{Command}
+use Rattle.command_machine.specs.Replies.{reply_text}
+use Rattle.command_machine.specs.Machine.{start}
+use Rattle.command_machine.specs.CommandRows.{reply, replies_text, after_all}
+use Rattle.office_run.specs.ScriptInput.{script_limit, TookAll, TookPart, TookSome, TookTooMany}
 use Rattle.office_run.specs.declared.status.Status.{Status}
 use Rattle.office_run.specs.declared.status.Status.TheVariants.{Done, Usage, SourceFault, SinkFault, Script, TooLong, NoMemory}
 
@@ -38,12 +40,18 @@ pub record RepliedToSome (bytes : List ℕ) (old new : Option (List ℕ)) : Type
   pub reads : Reads bytes commands rest
   pub put : Appends old new (replies_text start commands)
 
+-- memory ran out while the source was read, and nothing was put; or all of the source was read, and whole replies were put
+abbrev pub RanOut : Option (List ℕ) → Option (List ℕ) → Option (List ℕ) → Option (List ℕ) → Type 0
+RanOut left left' old new =
+    (TookSome left left' × Keeps old new)
+    ⊎ ((script : List ℕ) × TookAll left left' script × RepliedToSome script old new)
+
 -- left and left' are what the source had left before and after, old and new what the sink held
 abbrev pub Exit : Option (List ℕ) → Option (List ℕ) → Option (List ℕ) → Option (List ℕ) → Status → Type 0
 Exit left left' old new Done = (script : List ℕ) × TookAll left left' script × RepliedToAll script old new
 Exit left left' old new (Script k) = (script : List ℕ) × TookAll left left' script × StoppedAt k script old new
 Exit left left' old new SinkFault = (script : List ℕ) × TookAll left left' script × RepliedInPart script old new
-Exit left left' old new NoMemory = (bytes : List ℕ) × Consumes left left' bytes × RepliedToSome bytes old new
+Exit left left' old new NoMemory = RanOut left left' old new
 Exit left left' old new SourceFault = TookPart left left' × Keeps old new
 Exit left left' old new TooLong = TookTooMany left left' × Keeps old new
 Exit left left' old new Usage = Keeps left left' × Keeps old new

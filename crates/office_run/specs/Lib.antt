@@ -1,11 +1,7 @@
 pub mod ScriptGrammar
 pub mod ScriptReading
-pub mod Replies
-pub mod Machine
 pub mod Words
 pub mod ScriptInput
 pub mod InputFaults
 pub mod Exit
 pub mod Served
-pub mod ParsedCommand
-pub mod MadeReply

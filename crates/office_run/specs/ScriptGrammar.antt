@@ -1,38 +1,8 @@
 -- The grammar of scripts: a list of commands, each by its text.
 use Rattle.std.specs.Prelude.{◌≡◌, ◌≢◌, ◌⊎◌, ℕ, ◌^◌, ◌<◌, ◌≤◌, List, [], ◌∷◌, ◌++◌, length, codes}
 use Rattle.std.specs.Fmt.{decimal}
-use Rattle.ali_base.specs.Editors.{IsEditor, IsSerial}
-use Rattle.ali_base.specs.TelephoneNumber.{IsTn}
-use Rattle.office_entry.specs.declared.edit.Edit.{Edit as GuideEdit}
-use Rattle.office_entry.specs.Edits.{IsEdit}
 use Rattle.office_entry.specs.EditText.{IsEditText}
-
--- a command: the request of a position, which asks for a number after at least so many entries; a carrier's file; an editor's edit of the street guide; the next entry of the job, which is the file or edit that was read last; and all that are left of it
-pub data Command : Type 0 where
-  Ask : (position : ℕ) (tn : List ℕ) (since : ℕ) → Command
-  File : (content : List ℕ) → Command
-  Edit : (editor serial : ℕ) (edit : GuideEdit) → Command
-  Next : Command
-  Batch : Command
-
--- the most bytes of a carrier's file
-abbrev pub file_limit : ℕ
-file_limit = 16_777_216
-
--- a position is 1 to 64
-pub record IsAsk (position : ℕ) (tn : List ℕ) (since : ℕ) : Type 0 where
-  pub low : 1 ≤ position
-  pub high : position ≤ 64
-  pub number : IsTn tn
-  pub small : since < 2 ^ 32
-
--- what a command of the grammar is
-abbrev pub IsCommand : Command → Type 0
-IsCommand (Ask position tn since) = IsAsk position tn since
-IsCommand (File content) = length content ≤ file_limit
-IsCommand (Edit editor serial edit) = IsEditor editor × IsSerial serial × IsEdit edit
-IsCommand Next = Unit {0}
-IsCommand Batch = Unit {0}
+use Rattle.command_machine.specs.Commands.{Command, Ask, File, Edit, Next, Batch, IsCommand}
 
 -- `ASK a position tn since`; the one node's letter is a
 abbrev pub ask_text : ℕ → List ℕ → ℕ → List ℕ

@@ -18,6 +18,12 @@ pub record TookPart (left left' : Option (List ℕ)) : Type 0 where
   pub taken : Consumes left left' bytes
   pub within : length bytes ≤ script_limit
 
+-- at most one byte more than the limit was taken
+pub record TookSome (left left' : Option (List ℕ)) : Type 0 where
+  pub bytes : List ℕ
+  pub taken : Consumes left left' bytes
+  pub within : length bytes ≤ script_limit + 1
+
 -- one byte more than the limit was taken, and no byte after it
 pub record TookTooMany (left left' : Option (List ℕ)) : Type 0 where
   pub bytes : List ℕ

@@ -5,7 +5,7 @@ use Rattle.ali_base.specs.Steps.{◌>>=◌, when}
 use Rattle.ali_base.specs.TelephoneNumber.{tn_of}
 use Rattle.text_line.specs.WordReading.{number_of, split_once}
 use Rattle.office_entry.specs.EditReading.{edit_of_text}
-use Rattle.office_run.specs.ScriptGrammar.{Command, Ask, File, Edit, Next, Batch, file_limit}
+use Rattle.command_machine.specs.Commands.{Command, Ask, File, Edit, Next, Batch, file_limit}
 
 -- `ASK a position tn since`, without the end of its line
 unfoldable pub ask_of : List ℕ → Option Command

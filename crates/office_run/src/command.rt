@@ -1,65 +1,30 @@
 //! Reading commands.
 ghost use Rattle.std.specs.Prelude.{◌≡◌, ◌<◌, ◌≤◌, length, option_map, IfSome};
 ghost use Rattle.std.specs.List.{position};
-ghost use Rattle.office_run.specs.ScriptGrammar as script;
+ghost use Rattle.command_machine.specs.Commands as script;
 ghost use Rattle.office_run.specs.ScriptReading.{ask_of, edit_of_line, ask_or_edit, file_length_of, content_at, file_or_other, command_at, line_at};
-ghost use Rattle.office_run.specs.ParsedCommand.{command_of};
+ghost use Rattle.command_machine.specs.MadeReply.{command_of};
 
 use ali_base::{Editor, Serial, Tn};
+use command_machine::{Ask, Command, FILE_LIMIT};
 use office_entry::Edit;
 use text_line::{number_of, split_once};
 
-/// The most bytes of a carrier's file.
-pub const FILE_LIMIT: u32 = 16_777_216;
-
-/// The request of a position.
-#[derive(Clone, Copy, Debug, PartialEq, Eq)]
-pub struct Ask {
-    /// The position that asks, 1 to 64.
-    pub position: u32,
-    pub tn: Tn,
-    /// The answer is to be after at least so many entries.
-    pub since: u32,
-}
-
-/// A command of a script.
-#[derive(Clone, Copy, Debug)]
-pub enum Command<'a> {
-    /// `ASK a position tn since`
-    Ask(Ask),
-    /// `FILE length`, and the bytes of a carrier's file, which is read.
-    File(&'a [u8]),
-    /// `EDIT editor serial edit`: an editor's edit of the street guide, which is read.
-    Edit {
-        editor: Editor,
-        serial: Serial,
-        edit: Edit,
-    },
-    /// `NEXT`: the next entry of the job is booked.
-    Next,
-    /// `BATCH`: all entries that are left of it are booked.
-    Batch,
-}
-
-impl<'a> Command<'a> {
-    ghost use Rattle.office_run.specs.ParsedCommand.{command_of};
-
-    /// The first command of a script, and what is left after it. None where the bytes do not begin
-    /// with a command.
-    #[tactic(auto, unfolding(crate::specs::ScriptReading::command_at))]
-    pub fn first(bytes: &'a [u8]) -> Option<(Command<'a>, &'a [u8])>
-        ensures command { option_map (λ x. (command_of x.0, x.1.now)) result ≡ command_at bytes.now }
-        ensures shorter { IfSome result (λ x. length x.1.now < length bytes.now) }
-    {
-        let (line, rest) = line_at(bytes);
-        if line == b"NEXT".as_slice() {
-            return Some((Command::Next, rest));
-        }
-        if line == b"BATCH".as_slice() {
-            return Some((Command::Batch, rest));
-        }
-        file_or_other(line, rest)
+/// The first command of a script, and what is left after it. None where the bytes do not begin
+/// with a command.
+#[tactic(auto, unfolding(crate::specs::ScriptReading::command_at))]
+pub(crate) fn first_command<'a>(bytes: &'a [u8]) -> Option<(Command<'a>, &'a [u8])>
+    ensures command { option_map (λ x. (command_of x.0, x.1.now)) result ≡ command_at bytes.now }
+    ensures shorter { IfSome result (λ x. length x.1.now < length bytes.now) }
+{
+    let (line, rest) = line_at(bytes);
+    if line == b"NEXT".as_slice() {
+        return Some((Command::Next, rest));
     }
+    if line == b"BATCH".as_slice() {
+        return Some((Command::Batch, rest));
+    }
+    file_or_other(line, rest)
 }
 
 // A file, or else a request or an edit, by its line and what is left after it.

@@ -46,7 +46,7 @@ pub(crate) fn read_all<S: Source>(alloc: Global, source: &mut S) -> Result<Vec<u
 fn take_piece<S: Source>(source: &mut S, bytes: &mut Vec<u8>) -> Result<bool, InputFault>
     requires { length bytes.old.items ≤ script_limit }
     ensures more { IfOk result (λ more. TakesPiece (S.left source.old) (S.left source.new) bytes.old.items bytes.new.items more) }
-    ensures fault { IfErr result (λ fault. PieceStops (S.left source.old) (S.left source.new) (S.faults source.old) (S.faults source.new) fault) }
+    ensures fault { IfErr result (λ fault. PieceStops (S.left source.old) (S.left source.new) bytes.old.items (S.faults source.old) (S.faults source.new) fault) }
     ensures later { S.faults source.old ≤ S.faults source.new }
 {
     let mut piece = [0; PIECE];

@@ -2,18 +2,18 @@
 ghost use Rattle.std.specs.Prelude.{◌≡◌, ◌↔◌, ◌≤◌, ◌≢◌, true, false, length};
 ghost use Rattle.ali_base.specs.Faults.{Rose};
 ghost use Rattle.office_run.specs.ScriptInput.{script_limit};
-ghost use Rattle.office_run.specs.Machine.{start};
-ghost use Rattle.office_run.specs.MadeReply.{Keeps};
+ghost use Rattle.command_machine.specs.Machine.{start};
+ghost use Rattle.command_machine.specs.MadeReply.{ShowsMachine};
 ghost use Rattle.office_run.specs.Exit.{Exit, Completes};
 ghost use Rattle.office_run.specs.Served.{Serves};
 ghost use Rattle.office_run.specs.Words.{is_run, texts};
 
-use crate::command::Command;
-use crate::desk::Desk;
+use crate::command::first_command;
 use crate::input::{InputFault, read_all};
 use crate::status::Status;
 use crate::words::is_run;
 use ali_base::{NoMemory, Sink, Source};
+use command_machine::Desk;
 use std::alloc::Global;
 
 /// Runs the script that the source holds, where the words are `run DIR`: it reads the source to its
@@ -74,7 +74,7 @@ fn serve<K: Sink>(alloc: Global, script: &[u8], sink: &mut K) -> Status
 
 // Answers the commands one after the other, and puts each reply whole before the next command.
 fn answer_all<K: Sink>(alloc: Global, desk: &mut Desk, script: &[u8], sink: &mut K) -> Status
-    requires empty { Keeps desk.old start }
+    requires empty { ShowsMachine desk.old start }
     requires limit { length script.now ≤ script_limit }
     ensures serves { Serves script.now (K.contents sink.old) (K.contents sink.new) result }
     ensures sink_fault { result ≡ Status.SinkFault → Rose (K.faults sink.old) (K.faults sink.new) }
@@ -82,7 +82,7 @@ fn answer_all<K: Sink>(alloc: Global, desk: &mut Desk, script: &[u8], sink: &mut
     let mut rest = script;
     let mut count: u32 = 0;
     while !rest.is_empty() {
-        let (command, after) = match Command::first(rest) {
+        let (command, after) = match first_command(rest) {
             Some(found) => found,
             None => return Status::Script(count + 1),
         };

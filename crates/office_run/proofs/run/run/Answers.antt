@@ -1,5 +1,5 @@
-use Rattle.std.proofs.Common.{[], refl, subst}
-use Rattle.std.proofs.KnownBytes.{Appends-nil}
+use Rattle.std.proofs.Common.{rules, inl, subst}
+use Rattle.std.specs.Io.KnownBytes.{Keeps}
 use Rattle.office_run.specs.InputFaults.{InputStops}
 use Rattle.office_run.specs.declared.input.InputFault.{InputFault}
 use Rattle.office_run.proofs.run.run.Goals as goal
@@ -8,6 +8,7 @@ pub returns-in-Err-NoMemory-clause-exit : goal.returns-in-Err-NoMemory-clause-ex
 returns-in-Err-NoMemory-clause-exit g c =
     let left = g.S.Source.left in
     let faults = g.S.Source.faults in
+    let held = g.K.Sink.contents c.args.sink.now in
     let P : InputFault → Type 0 = λ fault. InputStops (left c.args.source.now) (left c.read_all.new.source) (faults c.args.source.now) (faults c.read_all.new.source) fault in
-    let taken = subst P c.in-Err-NoMemory.field-0-is c.in-Err-NoMemory.ensures.fault in
-    (taken.0, taken.1, record { commands = []; rest = taken.0; reads = refl; put = Appends-nil (g.K.Sink.contents c.args.sink.now) })
+    let nothing : Keeps held held = search rules in
+    inl (subst P c.in-Err-NoMemory.field-0-is c.in-Err-NoMemory.ensures.fault, nothing)

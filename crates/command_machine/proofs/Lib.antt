@@ -1,0 +1,4 @@
+pub mod Machines
+pub mod Commands
+pub mod Desks
+pub mod Rows

@@ -1,0 +1,19 @@
+//! The machine of commands: commands and their replies as values, the row by which each command is
+//! answered, and the desk that carries commands out.
+#![tactic(auto)]
+
+mod booking;
+mod command;
+mod desk;
+mod laws;
+mod refusal;
+mod reply;
+
+pub use command::{Ask, Command, FILE_LIMIT};
+pub use desk::Desk;
+pub use laws::{
+    batches_complete_their_jobs, histories_are_legal, history_only_grows,
+    repeated_jobs_get_the_same_reply, rows_are_read_one_way,
+};
+pub use refusal::Refusal;
+pub use reply::Reply;
