@@ -1,5 +1,5 @@
 -- What the answer to an entry says.
-use Rattle.std.proofs.Common.{◌≡◌, ◌+◌, [], ◌∷◌, ap, ◌∙◌, Result, Ok, Err, OnOk, OnErr, IfOk, IfErr}
+use Rattle.std.proofs.Common.{◌≡◌, ◌+◌, [], ◌∷◌, ap, Result, Ok, Err, OnOk, OnErr, IfOk, IfErr}
 use Rattle.office_entry.specs.declared.entry.Entry.{Entry}
 use Rattle.office_state.specs.declared.apply_fault.ApplyFault.{ApplyFault}
 use Rattle.office_state.specs.declared.verdict.Verdict.{Verdict}

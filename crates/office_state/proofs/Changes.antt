@@ -1,12 +1,11 @@
 -- What one entry more does to a row of a legal history, and what any entries do to the ids of ranges.
-use Rattle.std.proofs.Common.{◌≡◌, ℕ, ◌<◌, ◌≤◌, List, [], ◌∷◌, ◌++◌, Option, Some, None, IsSome, is_none, true, false, refl, ap, sym, ◌∙◌, subst, arith, length, Contains}
+use Rattle.std.proofs.Common.{◌≡◌, ℕ, ◌<◌, ◌≤◌, List, [], ◌∷◌, ◌++◌, Option, Some, None, IsSome, is_none, true, false, refl, ap, sym, ◌∙◌, subst, arith}
 use Rattle.std.specs.List.{fold}
 use Rattle.std.specs.FinMap.{get}
 use Rattle.std.specs.Option.{unwrap_or}
 use Rattle.std.proofs.lemmas.List.Elements.{All-contains}
 use Rattle.line_booking.proofs.LineRows.{unlocks, new_locked}
 use Rattle.msag_edits.specs.Edits.{edit_verdict}
-use Rattle.msag_edits.specs.EditedTables.{rows_after}
 use Rattle.msag_edits.proofs.EditedRows.{rows_kept, numbers_kept}
 use Rattle.msag_edits.proofs.Ranges.{live}
 use Rattle.msag_edits.proofs.RangeIds.{IsGone, ids_gone, next_kept}

@@ -16,7 +16,7 @@ use Rattle.office_entry.specs.EditBytes.{edit_digest}
 use Rattle.office_entry.specs.declared.entry.Entry.TheVariants.{Edit as Edited}
 use Rattle.sequence_once.specs.KeptCycles.{CyclesState}
 use Rattle.sequence_once.specs.SerialStanding.{EditRecord, after_serial}
-use Rattle.office_state.specs.OfficeState.{OfficeState, office_of, without_spare}
+use Rattle.office_state.specs.OfficeState.{office_of, without_spare}
 use Rattle.office_state.specs.Booked.{with_entry}
 use Rattle.office_state.specs.Verdict.{after}
 

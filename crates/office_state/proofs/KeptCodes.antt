@@ -1,5 +1,5 @@
 -- A file that is complete in the state of a legal history is complete, with the same codes, for as long as its cycle is kept.
-use Rattle.std.proofs.Common.{◌≡◌, ℕ, true, List, [], ◌∷◌, ◌++◌, Option, Some, None, IsSome, Ok, refl, ap, sym, ◌∙◌, subst, ◌⊎◌, inl, inr, option_map}
+use Rattle.std.proofs.Common.{◌≡◌, ℕ, true, List, [], ◌∷◌, ◌++◌, Option, Some, None, IsSome, Ok, refl, ap, sym, subst, ◌⊎◌, inl, inr, option_map}
 use Rattle.std.specs.List.{fold}
 use Rattle.sequence_once.specs.KeptCycles.{CycleRecord, IsSound, of_company, last_of, is_finished, codes_of}
 use Rattle.sequence_once.specs.CycleStanding.{standing_of}

@@ -12,7 +12,7 @@ use Rattle.office_entry.specs.declared.edit.Edit.{Edit as GuideEdit}
 use Rattle.office_entry.specs.declared.entry.Entry.{Entry}
 use Rattle.office_entry.specs.declared.entry.Entry.TheVariants.{Open, Line, Edit}
 use Rattle.office_state.specs.declared.limits.Limits.{Limits}
-use Rattle.office_state.specs.OfficeState.{State, OfficeState, office_of, without_spare, empty_guide, empty_state, limits_of}
+use Rattle.office_state.specs.OfficeState.{State, office_of, without_spare, empty_guide, empty_state, limits_of}
 use Rattle.office_state.specs.Soundness.{IsSoundOffice}
 use Rattle.office_state.specs.Verdict.{after}
 use Rattle.office_state.specs.History.{state}

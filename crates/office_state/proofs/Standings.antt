@@ -1,5 +1,5 @@
 -- The standing of a company's file after an opening and after a line, in the state of the office.
-use Rattle.std.proofs.Common.{◌≡◌, ℕ, ◌+◌, ◌≤◌, ◌==◌, nat_lt, true, List, length, Option, Some, Result, Ok, refl, arith}
+use Rattle.std.proofs.Common.{◌≡◌, ℕ, ◌+◌, ◌≤◌, ◌==◌, nat_lt, true, List, length, Option, Some, Ok, refl, arith}
 use Rattle.std.proofs.lemmas.Bool.Decides.{nat_tests}
 use Rattle.ali_base.specs.CivilDay.{CivilDay}
 use Rattle.sequence_once.specs.KeptCycles.{CycleRecord, IsSound, last_of, codes_of, count_of}

@@ -1,5 +1,5 @@
 -- What an entry that is due says of its company's last cycle, and what it does to the cycles of each company and to the last edits.
-use Rattle.std.proofs.Common.{◌≡◌, ℕ, ◌+◌, ◌<◌, ◌≤◌, ◌==◌, ◌&&◌, ◌-◌, nat_lt, Bool, true, false, List, [], ◌∷◌, ◌++◌, length, set, get_or, Option, Some, None, Ok, refl, ap, sym, ◌∙◌, arith, ◌⊎◌, inl, inr, Less, Equal, Greater}
+use Rattle.std.proofs.Common.{◌≡◌, ℕ, ◌+◌, ◌<◌, ◌≤◌, ◌-◌, nat_lt, Bool, true, false, List, [], ◌∷◌, ◌++◌, length, set, get_or, Option, Some, None, refl, ap, sym, ◌∙◌, arith, ◌⊎◌, inl, inr, Less, Equal, Greater}
 use Rattle.std.specs.declared.cmp.Ordering.{Ordering}
 use Rattle.std.specs.Option.{unwrap_or}
 use Rattle.std.proofs.lemmas.Bool.Decides.{nat_tests}
@@ -8,10 +8,8 @@ use Rattle.std.proofs.lemmas.List.{length-set, get_or-set_same, get_or-set_other
 use Rattle.std.proofs.lemmas.Grind.{get_or-set_at}
 use Rattle.ali_base.specs.CivilDay.{CivilDay}
 use Rattle.ali_base.specs.Editors.{IsEditor}
-use Rattle.sequence_once.specs.KeptCycles.{CycleRecord, CyclesState, IsSound, of_company, last_of, is_finished, is_last_finished, opened}
-use Rattle.sequence_once.specs.CycleStanding.{last_number, standing_of}
+use Rattle.sequence_once.specs.KeptCycles.{CycleRecord, IsSound, of_company, last_of, is_finished, is_last_finished, opened}
 use Rattle.sequence_once.specs.SerialStanding.{EditRecord, last_edit, last_serial}
-use Rattle.sequence_once.specs.declared.standing.Standing.TheVariants.{New}
 use Rattle.sequence_once.proofs.Order.{by_bytes, same_company}
 use Rattle.sequence_once.proofs.Sound.{sound_opened, sound_noted}
 use Rattle.sequence_once.proofs.Laws.{others_after_open, last_after_open, others_after_note, last_after_note}

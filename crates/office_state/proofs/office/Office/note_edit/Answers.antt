@@ -1,4 +1,4 @@
-use Rattle.std.proofs.Common.{◌+◌, ap, ◌∙◌}
+use Rattle.std.proofs.Common.{ap, ◌∙◌}
 use Rattle.office_entry.specs.declared.entry.Entry.TheVariants.{Edit}
 use Rattle.sequence_once.specs.SerialStanding.{after_serial}
 use Rattle.office_state.specs.OfficeState.{OfficeState}
