@@ -1,25 +1,30 @@
 -- A field that is read is the field that was written, and what was written is read again.
 use Rattle.std.proofs.Common.{◌≡◌, ℕ, zero, suc, ◌^◌, ◌<◌, ◌≤◌, Bool, true, false, cond, nat_lt, List, [], ◌∷◌, ◌++◌, length, get_or, take, drop, Option, Some, None, refl, sym, ap, subst, ◌∙◌, append_assoc, arith}
 use Rattle.std.specs.Int.{w32, from_be_bytes}
-use Rattle.std.specs.List.{All, AllByRecursion}
+use Rattle.std.specs.List.{AllByRecursion}
+use Rattle.std.specs.Prelude.{replicate, ◌==◌}
+use Rattle.std.proofs.lemmas.Bool.{and_parts}
 use Rattle.std.proofs.lemmas.Bool.Decides.{nat_tests}
 use Rattle.std.proofs.lemmas.List.{take_at, drop_at, take-append-drop, length-append, length-take-le}
-use Rattle.std.proofs.lemmas.List.Elements.{recursion_from_All}
+use Rattle.std.proofs.lemmas.List.Elements.{recursion_from_All, All-from_get_or}
 use Rattle.std.proofs.lemmas.Nat.{be_bytes_4, from_be_bytes-to_be_bytes_4}
 use Rattle.ali_base.specs.Columns.{is_empty}
-use Rattle.ali_base.specs.Fronts.{front, number_at, number_bytes}
+use Rattle.ali_base.specs.Fronts.{AreBytes, are_zeros, front, number_at, number_bytes}
 use Rattle.ali_base.proofs.Steps.{bind_ok, bind_some, some_is}
 
 abbrev pub IsBytes : List ℕ → Type 0
 IsBytes bytes = (i : ℕ) → get_or bytes i 0 < 256
 
-pub all_bytes : (bytes : List ℕ) → All (λ byte. byte < 2 ^ 8) bytes → IsBytes bytes
+pub all_bytes : (bytes : List ℕ) → AreBytes bytes → IsBytes bytes
 all_bytes bytes all = fits bytes (recursion_from_All (λ byte. byte < 2 ^ 8) bytes all)
   where
     fits : (bytes : List ℕ) → AllByRecursion (λ byte. byte < 2 ^ 8) bytes → IsBytes bytes
     fits [] h i = omega arith
     fits (x ∷ xs) h zero = h.0
     fits (x ∷ xs) h (suc i) = fits xs h.1 i
+
+pub bytes_all : (bytes : List ℕ) → IsBytes bytes → AreBytes bytes
+bytes_all bytes fits = All-from_get_or (λ byte. byte < 2 ^ 8) bytes 0 (λ i inside. fits i)
 
 pub rest_fits : (text rest : List ℕ) → IsBytes (text ++ rest) → IsBytes rest
 rest_fits [] rest h = h
@@ -85,3 +90,16 @@ unfolding number_at
 number_again n rest lt =
     bind_some (front 4 (number_bytes n ++ rest)) (number_bytes n, rest) (λ number. Some (from_be_bytes w32 number.0, number.1)) (Some (n, rest)) (front_again 4 (number_bytes n) rest refl)
     (ap (λ k. Some (k, rest)) (from_be_bytes-to_be_bytes_4 n lt))
+
+-- ---- zeros
+
+pub zeros_are : (bytes : List ℕ) → are_zeros bytes ≡ true → bytes ≡ replicate (length bytes) 0
+zeros_are [] h = refl
+zeros_are (x ∷ xs) h =
+    let p = and_parts (x == 0) (are_zeros xs) h in
+    let first : x ≡ 0 = grind (arith, nat_tests, p.0) in
+    ap (λ z. z ∷ xs) first ∙ ap (λ z. 0 ∷ z) (zeros_are xs p.1)
+
+pub are_zeros-zeros : (n : ℕ) → are_zeros (replicate n 0) ≡ true
+are_zeros-zeros zero = refl
+are_zeros-zeros (suc n) = are_zeros-zeros n

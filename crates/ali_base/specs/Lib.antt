@@ -17,3 +17,5 @@ pub mod WholePuts
 pub mod Parity
 pub mod StreetKey
 pub mod Editors
+pub mod NodeNames
+pub mod Duties

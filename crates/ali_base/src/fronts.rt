@@ -1,6 +1,6 @@
 //! Reading bytes from their front: fields of a fixed width, and numbers of four bytes.
 ghost use Rattle.std.specs.Prelude.{◌≡◌, option_map};
-ghost use Rattle.ali_base.specs.Fronts.{front, number_at};
+ghost use Rattle.ali_base.specs.Fronts.{are_zeros, front, number_at};
 
 /// The first bytes, as an array, and what is left after them.
 #[tactic(auto, unfolding(crate::specs::Fronts::front))]
@@ -25,4 +25,11 @@ pub fn number_at(bytes: &[u8]) -> Option<(u32, &[u8])>
 {
     let (number, rest) = front::<4>(bytes)?;
     Some((u32::from_be_bytes(*number), rest))
+}
+
+/// Whether they are nothing but zeros.
+pub fn are_zeros(bytes: &[u8]) -> bool
+    ensures { result ≡ are_zeros bytes.now }
+{
+    bytes.iter().all(|byte| *byte == 0)
 }

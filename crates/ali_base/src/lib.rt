@@ -32,7 +32,7 @@ pub use duty::{Duty, Mode};
 pub use editor::{EDITORS, Editor, LAST_SERIAL, Serial};
 pub use esn::{Esn, HIGHEST_ESN};
 pub use fields::{columns, digits_number, front_trimmed, is_blank, is_printable, trimmed};
-pub use fronts::{first_bytes, front, number_at};
+pub use fronts::{are_zeros, first_bytes, front, number_at};
 pub use house::{HIGHEST_HOUSE, House};
 pub use laws::limits_of_values;
 pub use memory_sink::MemSink;

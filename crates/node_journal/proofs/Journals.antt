@@ -5,6 +5,7 @@ use Rattle.std.proofs.lemmas.Option.{same_Some}
 use Rattle.std.proofs.lemmas.List.Elements.{All-nil, All-cons, All-head, All-tail, All-take, All-drop}
 use Rattle.std.proofs.lemmas.List.{take_at, drop_at}
 use Rattle.ali_base.specs.declared.names.NodeName.{NodeName}
+use Rattle.ali_base.specs.Fronts.{AreBytes}
 use Rattle.ali_base.proofs.FrontsAgain.{all_bytes}
 use Rattle.commit_log.specs.LogImage.{AreBodies, committed_frames}
 use Rattle.commit_log.specs.declared.blocks.TheConstants.{COMMITTED}
@@ -68,9 +69,6 @@ one_list k (f ∷ frames) (e ∷ others) h g same =
 
 -- ---- bodies that were read are those of frames
 
-abbrev AllBytes : List ℕ → Type 0
-AllBytes bytes = All (λ byte. byte < 2 ^ 8) bytes
-
 -- frames with these bodies, and their epochs
 pub record Framed (k : ℕ) (bodies : List (List ℕ)) : Type 0 where
   pub frames : List (Frame Entry)
@@ -78,12 +76,12 @@ pub record Framed (k : ℕ) (bodies : List (List ℕ)) : Type 0 where
   pub bodies_are : bodies ≡ bodies_from k frames
   pub known : map epoch_in bodies ≡ epochs frames
 
-pub framed : (k : ℕ) (bodies : List (List ℕ)) → All AllBytes bodies → AreBodies is_body 639 k bodies → Framed k bodies
+pub framed : (k : ℕ) (bodies : List (List ℕ)) → All AreBytes bodies → AreBodies is_body 639 k bodies → Framed k bodies
 framed k [] bytes lawful = record { frames = []; lawful = All-nil IsFrame; bodies_are = refl; known = refl }
 framed k (x ∷ bodies) bytes lawful =
-    let here = body_found k x (all_bytes x (All-head AllBytes x bodies bytes)) lawful.1 in
+    let here = body_found k x (all_bytes x (All-head AreBytes x bodies bytes)) lawful.1 in
     let f = here.0 in
-    let rest = framed (suc k) bodies (All-tail AllBytes x bodies bytes) lawful.2 in
+    let rest = framed (suc k) bodies (All-tail AreBytes x bodies bytes) lawful.2 in
     let epoch : epoch_in x ≡ f.epoch = ap epoch_in here.1.spelled ∙ epoch_in-body k f here.1.lawful in
     record {
       frames = f ∷ rest.frames;
@@ -93,23 +91,23 @@ framed k (x ∷ bodies) bytes lawful =
     }
 
 -- the bodies in an image of bytes are bytes
-frames_bytes : (bodies : List (List ℕ)) (rest : List ℕ) → AllBytes (committed_frames bodies ++ rest) → All AllBytes bodies
-frames_bytes [] rest all = All-nil AllBytes
+frames_bytes : (bodies : List (List ℕ)) (rest : List ℕ) → AreBytes (committed_frames bodies ++ rest) → All AreBytes bodies
+frames_bytes [] rest all = All-nil AreBytes
 frames_bytes (x ∷ bodies) rest all =
-    let split : AllBytes ((COMMITTED ∷ x) ++ (committed_frames bodies ++ rest)) = subst AllBytes (append_assoc (COMMITTED ∷ x) (committed_frames bodies) rest) all in
-    All-cons AllBytes x bodies (All-tail (λ byte. byte < 2 ^ 8) COMMITTED x (left (COMMITTED ∷ x) (committed_frames bodies ++ rest) split)) (frames_bytes bodies rest (right (COMMITTED ∷ x) (committed_frames bodies ++ rest) split))
+    let split : AreBytes ((COMMITTED ∷ x) ++ (committed_frames bodies ++ rest)) = subst AreBytes (append_assoc (COMMITTED ∷ x) (committed_frames bodies) rest) all in
+    All-cons AreBytes x bodies (All-tail (λ byte. byte < 2 ^ 8) COMMITTED x (left (COMMITTED ∷ x) (committed_frames bodies ++ rest) split)) (frames_bytes bodies rest (right (COMMITTED ∷ x) (committed_frames bodies ++ rest) split))
   where
-    left : (xs ys : List ℕ) → AllBytes (xs ++ ys) → AllBytes xs
-    left xs ys h = subst AllBytes (take_at xs ys (length xs) refl) (All-take (λ byte. byte < 2 ^ 8) (length xs) (xs ++ ys) h)
+    left : (xs ys : List ℕ) → AreBytes (xs ++ ys) → AreBytes xs
+    left xs ys h = subst AreBytes (take_at xs ys (length xs) refl) (All-take (λ byte. byte < 2 ^ 8) (length xs) (xs ++ ys) h)
 
-    right : (xs ys : List ℕ) → AllBytes (xs ++ ys) → AllBytes ys
-    right xs ys h = subst AllBytes (drop_at xs ys (length xs) refl) (All-drop (λ byte. byte < 2 ^ 8) (length xs) (xs ++ ys) h)
+    right : (xs ys : List ℕ) → AreBytes (xs ++ ys) → AreBytes ys
+    right xs ys h = subst AreBytes (drop_at xs ys (length xs) refl) (All-drop (λ byte. byte < 2 ^ 8) (length xs) (xs ++ ys) h)
 
-pub image_bytes : (head : List ℕ) (bodies : List (List ℕ)) (next : ℕ) (rest image : List ℕ) → image ≡ log.log_front head bodies ++ next ∷ rest → AllBytes image → All AllBytes bodies
+pub image_bytes : (head : List ℕ) (bodies : List (List ℕ)) (next : ℕ) (rest image : List ℕ) → image ≡ log.log_front head bodies ++ next ∷ rest → AreBytes image → All AreBytes bodies
 image_bytes head bodies next rest image parts all =
     let whole : image ≡ head ++ (committed_frames bodies ++ next ∷ rest) = parts ∙ append_assoc head (committed_frames bodies) (next ∷ rest) in
     let behind : drop (length head) image ≡ committed_frames bodies ++ next ∷ rest = ap (drop (length head)) whole ∙ drop_at head (committed_frames bodies ++ next ∷ rest) (length head) refl in
-    frames_bytes bodies (next ∷ rest) (subst AllBytes behind (All-drop (λ byte. byte < 2 ^ 8) (length head) image all))
+    frames_bytes bodies (next ∷ rest) (subst AreBytes behind (All-drop (λ byte. byte < 2 ^ 8) (length head) image all))
 
 -- ---- what a disk stands for
 

@@ -5,6 +5,7 @@ use Rattle.std.proofs.lemmas.List.{length-map}
 use Rattle.std.proofs.lemmas.List.Elements.{All-get_or}
 use Rattle.std.proofs.lemmas.Option.{slice_get_within, get_or_from_slice_get, same_Some, slice_get-map}
 use Rattle.ali_base.specs.declared.names.NodeName.{NodeName}
+use Rattle.ali_base.specs.declared.names.NodeName.TheVariants.{A, B}
 use Rattle.commit_log.specs.LogImage.{AreBodies}
 use Rattle.commit_log.specs.LogImage as log_image
 use Rattle.commit_log.specs.LogState as kept
@@ -27,7 +28,8 @@ use Rattle.node_journal.proofs.Journals.{Framed, framed, length-bodies, bodies_a
 
 pub length-first_block : (name : NodeName) → length (first_block name) ≡ 639
 unfolding first_block
-length-first_block name = refl
+length-first_block A = refl
+length-first_block B = refl
 
 pub length-epochs : (frames : List (Frame Entry)) → length (epochs frames) ≡ length frames
 length-epochs frames = length-map frames (λ (f : Frame Entry). f.epoch)

@@ -26,6 +26,10 @@ pub record IsBodyOf (k : ℕ) (frame : Frame Entry) (bytes : List ℕ) : Type 0 
   pub lawful : IsFrame frame
   pub spelled : bytes ≡ body k frame
 
+-- they are the body of frame k, which is some frame
+abbrev pub IsSomeBody : ℕ → List ℕ → Type 0
+IsSomeBody k bytes = (frame : Frame Entry) × IsBodyOf k frame bytes
+
 -- the bodies of these frames, of which the first is frame k
 abbrev pub bodies_from : ℕ → List (Frame Entry) → List (List ℕ)
 bodies_from k [] = []

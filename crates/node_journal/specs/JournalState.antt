@@ -17,6 +17,6 @@ pub record Keeps (name : NodeName) (frames : List (Frame Entry)) (s : DiskState)
 abbrev pub StandsForEither : NodeName → List (Frame Entry) → List (Frame Entry) → List ℕ → Type 0
 StandsForEither name before after image = StandsFor name before image ⊎ StandsFor name after image
 
--- one frame more
-abbrev pub with_frame : List (Frame Entry) → Entry → ℕ → List (Frame Entry)
-with_frame frames entry epoch = frames ++ record { entry = entry; epoch = epoch } ∷ []
+-- one frame more, of this entry and this epoch
+abbrev pub with_frame : Entry → ℕ → List (Frame Entry) → List (Frame Entry)
+with_frame entry epoch frames = frames ++ record { entry = entry; epoch = epoch } ∷ []

@@ -1,5 +1,5 @@
 -- What an open journal stands for, and what its calls answer.
-use Rattle.std.specs.Prelude.{◌≡◌, ◌≢◌, ℕ, ◌+◌, ◌-◌, ◌*◌, ◌<◌, ◌≤◌, Bool, true, false, List, [], ◌∷◌, ◌++◌, length, take, drop, slice_get, slice_index, Some, Result, Ok, Err}
+use Rattle.std.specs.Prelude.{◌≡◌, ◌≢◌, ℕ, ◌+◌, ◌-◌, ◌*◌, ◌<◌, ◌≤◌, Bool, true, false, List, [], ◌∷◌, ◌++◌, length, take, drop, slice_get, slice_index, Some, Result, Ok, Err, OnOk}
 use Rattle.ali_base.specs.Faults.{Rose}
 use Rattle.ali_base.specs.declared.names.NodeName.{NodeName}
 use Rattle.commit_log.specs.OpenLog as log
@@ -7,11 +7,12 @@ use Rattle.commit_log.specs.declared.opening.OpenFault.{OpenFault}
 use Rattle.commit_log.specs.declared.opening.OpenFault.TheVariants as failing
 use Rattle.crash_disk.specs.CrashOutcomes.{Stays}
 use Rattle.crash_disk.specs.DiskState.{DiskState}
+use Rattle.crash_disk.specs.Moments.{EachMoment}
 use Rattle.office_entry.specs.declared.entry.Entry.{Entry}
 use Rattle.pair_world.specs.Frames.{Frame, epochs}
 use Rattle.node_journal.specs.FrameBytes.{IsFrame, body}
 use Rattle.node_journal.specs.JournalImage.{StandsFor, IsForeign, IsDamaged}
-use Rattle.node_journal.specs.JournalState.{Keeps}
+use Rattle.node_journal.specs.JournalState.{Keeps, StandsForEither}
 use Rattle.node_journal.specs.declared.faults.AppendFault.{AppendFault}
 use Rattle.node_journal.specs.declared.faults.AppendFault.TheVariants as appending
 use Rattle.node_journal.specs.declared.faults.DiskFault.{DiskFault}
@@ -55,6 +56,16 @@ pub record IsFixed {D : Type 0} (state : D → DiskState) (old new : Journal D) 
   pub name : name_of new ≡ name_of old
   pub limit : limit_of new ≡ limit_of old
   pub faults : (state (disk_of old)).faults ≤ (state (disk_of new)).faults
+
+-- On success the journal represents its frames as changed.
+abbrev pub Becomes : {D T E : Type 0} → (D → DiskState) → (List (Frame Entry) → List (Frame Entry)) → Journal D → Journal D → Result T E → Type 0
+Becomes state change old new result =
+    (frames : List (Frame Entry)) → Represents state old frames → OnOk result (Represents state new (change frames))
+
+-- A crash at each moment of the call leaves an image that stands for the frames from before or for the changed ones.
+abbrev pub CrashesBetween : {D : Type 0} → (D → DiskState) → (List (Frame Entry) → List (Frame Entry)) → Journal D → Journal D → Type 0
+CrashesBetween state change old new =
+    (frames : List (Frame Entry)) → Represents state old frames → EachMoment (state (disk_of old)) (state (disk_of new)) (StandsForEither (name_of old) frames (change frames))
 
 -- no byte of the disk changes, and nothing of the journal
 pub record IsUntouched {D : Type 0} (state : D → DiskState) (old new : Journal D) : Type 0 where
@@ -125,3 +136,13 @@ pub record IsRefused {D : Type 0} (state : D → DiskState) (disk : D) (name : N
   pub stays : Stays (state disk) (state after)
   pub faults : (state disk).faults ≤ (state after).faults
   pub cause : Refused name limit (state disk) (state after) fault
+
+-- when each answer of an opening comes
+abbrev pub OpenAnswers : {D : Type 0} → (D → DiskState) → D → NodeName → ℕ → Result (Journal D) (D × JournalFault) → Type 0
+OpenAnswers state disk name limit (Ok journal) = IsOpened state disk name limit journal
+OpenAnswers state disk name limit (Err e) = IsRefused state disk name limit e.0 e.1
+
+-- the same of a journal that is opened again, which takes no memory; where it is refused, it knows no epochs
+abbrev pub ReopenAnswers : {D : Type 0} → (D → DiskState) → Journal D → Journal D → Result (Unit {0}) JournalFault → Type 0
+ReopenAnswers state old new (Ok x) = IsOpened state (disk_of old) (name_of old) (limit_of old) new
+ReopenAnswers state old new (Err fault) = IsRefused state (disk_of old) (name_of old) (limit_of old) (disk_of new) fault × (fault ≢ opening.NoMemory) × (epochs_of new ≡ [])

@@ -1,7 +1,7 @@
 //! The first block of a journal.
 ghost use Rattle.std.specs.Prelude.{◌≡◌, take};
 ghost use Rattle.commit_log.specs.LogState.{body_of};
-ghost use Rattle.node_journal.specs.JournalImage.{first_block, letter};
+ghost use Rattle.node_journal.specs.JournalImage.{first_block};
 
 use ali_base::{NodeName, ZeroFilled};
 
@@ -12,16 +12,6 @@ pub(crate) fn first_block(name: NodeName) -> [u8; 640]
 {
     let mut block = ZeroFilled::new();
     block.push(b"ALI OFFICE JRNL1");
-    block.push(&[letter(name)]);
+    block.push(&name.text());
     block.whole()
-}
-
-// The letter of a node.
-fn letter(name: NodeName) -> u8
-    ensures { result ≡ letter name }
-{
-    match name {
-        NodeName::A => b'a',
-        NodeName::B => b'b',
-    }
 }

@@ -1,11 +1,8 @@
 //! The journal.
-ghost use Rattle.std.specs.Prelude.{◌≡◌, ◌≤◌, ◌-◌, List, ℕ, length, take, true, is_ok, OnOk, MatchResult, slice_index, vec_capacity};
+ghost use Rattle.std.specs.Prelude.{◌≡◌, ◌≤◌, ◌-◌, length, take, true, is_ok, slice_index, vec_capacity};
 ghost use Rattle.commit_log.specs.OpenLog.{body_len_of, limit_of as log_limit, count_of as log_count, is_usable as log_usable};
-ghost use Rattle.crash_disk.specs.Moments.{EachMoment};
-ghost use Rattle.office_entry.specs.declared.entry.Entry.{Entry as AnyEntry};
 ghost use Rattle.node_journal.specs.FrameBytes.{IsEpoch};
-ghost use Rattle.node_journal.specs.JournalState.{StandsForEither, with_frame};
-ghost use Rattle.pair_world.specs.Frames.{Frame};
+ghost use Rattle.node_journal.specs.JournalState.{with_frame};
 
 use crate::epochs::Epochs;
 use crate::faults::{AppendFault, DiskFault, JournalFault, ReadFault, refusal};
@@ -34,7 +31,7 @@ pub struct Journal<D> {
 }
 
 impl<D: Disk + Drop> Journal<D> {
-    ghost use Rattle.node_journal.specs.OpenJournal.{Represents, IsOpened, IsRefused, IsUntouched, IsFixed, AppendAnswers, CloseAnswers, ReadAnswers, disk_of, name_of, limit_of, epochs_of, count_of, is_usable};
+    ghost use Rattle.node_journal.specs.OpenJournal.{Becomes, CrashesBetween, OpenAnswers, ReopenAnswers, IsUntouched, IsFixed, AppendAnswers, CloseAnswers, ReadAnswers, disk_of, name_of, limit_of, epochs_of, count_of, is_usable};
 
     /// Opens the journal of a node, of at most `limit` frames. It syncs the disk, and changes no byte.
     pub fn open(
@@ -44,7 +41,7 @@ impl<D: Disk + Drop> Journal<D> {
         limit: u32,
     ) -> Result<Journal<D>, (D, JournalFault)>
         requires { limit ≤ 1_000_000 }
-        ensures { MatchResult result (IsOpened D.state disk name limit) (λ e. IsRefused D.state disk name limit e.0 e.1) }
+        ensures { OpenAnswers D.state disk name limit result }
     {
         let mut epochs = match Epochs::new(alloc, limit) {
             Ok(epochs) => epochs,
@@ -60,8 +57,7 @@ impl<D: Disk + Drop> Journal<D> {
 
     /// Opens the journal again, as it is. Where it is refused, the journal is not usable. It takes no memory.
     pub fn reopen(&mut self) -> Result<(), JournalFault>
-        ensures answer { MatchResult result (λ _. IsOpened D.state (disk_of self.old) (name_of self.old) (limit_of self.old) self.new) (IsRefused D.state (disk_of self.old) (name_of self.old) (limit_of self.old) (disk_of self.new)) }
-        ensures memory { result ≡ Err JournalFault.NoMemory → ⊥ }
+        ensures answer { ReopenAnswers D.state self.old self.new result }
         ensures usable { is_usable self.new ≡ is_ok result }
         ensures fixed { IsFixed D.state self.old self.new }
     {
@@ -111,11 +107,9 @@ impl<D: Disk + Drop> Journal<D> {
     pub fn append(&mut self, entry: &Entry, epoch: u32) -> Result<u32, AppendFault>
         requires usable { is_usable self.old ≡ true }
         requires epoch { IsEpoch epoch }
-        ensures stored { (frames : List (Frame AnyEntry)) → Represents D.state self.old frames
-            → OnOk result (Represents D.state self.new (with_frame frames entry.now epoch)) }
+        ensures stored { Becomes D.state (with_frame entry.now epoch) self.old self.new result }
         // A crash at any moment leaves the frames from before, with the new one or without.
-        ensures moments { (frames : List (Frame AnyEntry)) → Represents D.state self.old frames
-            → EachMoment (D.state (disk_of self.old)) (D.state (disk_of self.new)) (StandsForEither (name_of self.old) frames (with_frame frames entry.now epoch)) }
+        ensures moments { CrashesBetween D.state (with_frame entry.now epoch) self.old self.new }
         ensures answer { AppendAnswers D.state self.old self.new epoch result }
         ensures fixed { IsFixed D.state self.old self.new }
     {
@@ -134,11 +128,9 @@ impl<D: Disk + Drop> Journal<D> {
     pub fn close_from(&mut self, k: u32) -> Result<(), DiskFault>
         requires usable { is_usable self.old ≡ true }
         requires number { (1 ≤ k) × (k ≤ count_of self.old) }
-        ensures closed { (frames : List (Frame AnyEntry)) → Represents D.state self.old frames
-            → OnOk result (Represents D.state self.new (take (k - 1) frames)) }
+        ensures closed { Becomes D.state (take (k - 1)) self.old self.new result }
         // A crash at any moment leaves the frames from before, with those from k on or without.
-        ensures moments { (frames : List (Frame AnyEntry)) → Represents D.state self.old frames
-            → EachMoment (D.state (disk_of self.old)) (D.state (disk_of self.new)) (StandsForEither (name_of self.old) frames (take (k - 1) frames)) }
+        ensures moments { CrashesBetween D.state (take (k - 1)) self.old self.new }
         ensures answer { CloseAnswers D.state self.old self.new k result }
         ensures fixed { IsFixed D.state self.old self.new }
     {

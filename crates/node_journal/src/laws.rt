@@ -1,34 +1,43 @@
 //! Laws on images and bodies, for whoever reads the definitions.
-ghost use Rattle.std.specs.Prelude.{◌≡◌, ◌≤◌, ◌<◌, ◌^◌, ◌⊎◌, ◌↔◌, List, ℕ, All, length, true};
+ghost use Rattle.std.specs.Prelude.{◌≡◌, ◌<◌, ◌^◌, ◌⊎◌, List, ℕ, true};
 ghost use Rattle.ali_base.specs.declared.names.NodeName.{NodeName as AnyName};
+ghost use Rattle.ali_base.specs.Fronts.{AreBytes};
 ghost use Rattle.office_entry.specs.declared.entry.Entry.{Entry};
 ghost use Rattle.pair_world.specs.Frames.{Frame};
-ghost use Rattle.node_journal.specs.FrameBytes.{IsFrame, body, is_body};
-ghost use Rattle.node_journal.specs.JournalImage.{StandsFor, IsForeign, IsDamaged};
+ghost use Rattle.node_journal.specs.FrameBytes.{IsFrame, IsSomeBody, body, is_body};
+ghost use Rattle.node_journal.specs.JournalImage.{StandsFor, StandsForSome, IsForeign, IsDamaged, IsDamagedSomewhere};
 
 use crate::epochs::Epochs;
 
 /// Bytes are read as the body of a frame exactly where they are the body of one, and of one alone.
 pub fn bodies_are_read_as_written()
     ensures back { (k : ℕ) (frame : Frame Entry) → k < 2 ^ 32 → IsFrame frame → is_body k (body k frame) ≡ true }
-    ensures only { (k : ℕ) (bytes : List ℕ) → All (λ byte. byte < 2 ^ 8) bytes → length bytes ≡ 639 → is_body k bytes ≡ true → (frame : Frame Entry) × IsFrame frame × (bytes ≡ body k frame) }
-    ensures one { (k : ℕ) (frame other : Frame Entry) → IsFrame frame → IsFrame other → body k frame ≡ body k other → frame ≡ other }
+    ensures only { (k : ℕ) (bytes : List ℕ) → AreBytes bytes → is_body k bytes ≡ true → IsSomeBody k bytes }
+    ensures one { (k : ℕ) (frame other : Frame Entry) →
+        IsFrame frame → IsFrame other → body k frame ≡ body k other → frame ≡ other }
 {}
 
 /// An image stands for one list of frames alone.
 pub fn frames_are_known_from_the_image()
-    ensures { (name : AnyName) (image : List ℕ) (frames others : List (Frame Entry)) → StandsFor name frames image → StandsFor name others image → frames ≡ others }
+    ensures { (name : AnyName) (image : List ℕ) (frames others : List (Frame Entry)) →
+        StandsFor name frames image → StandsFor name others image → frames ≡ others }
 {
     commit_log::bodies_are_known_from_the_image::<Epochs>();
 }
 
-/// Each image is exactly one of these: foreign, damaged at one frame, or standing for frames within the limit.
+/// Each image of bytes is exactly one of these: foreign, damaged at one frame, or standing for
+/// frames within the limit.
 pub fn an_image_is_read_one_way()
-    ensures some { (name : AnyName) (image : List ℕ) (limit : ℕ) → All (λ byte. byte < 2 ^ 8) image → IsForeign name image ⊎ ((k : ℕ) × IsDamaged name limit k image) ⊎ ((frames : List (Frame Entry)) × (length frames ≤ limit) × StandsFor name frames image) }
-    ensures not_foreign { (name : AnyName) (image : List ℕ) (frames : List (Frame Entry)) → StandsFor name frames image → IsForeign name image → ⊥ }
-    ensures not_both { (name : AnyName) (image : List ℕ) (limit k : ℕ) → IsForeign name image → IsDamaged name limit k image → ⊥ }
-    ensures not_damaged { (name : AnyName) (image : List ℕ) (frames : List (Frame Entry)) (limit k : ℕ) → length frames ≤ limit → StandsFor name frames image → IsDamaged name limit k image → ⊥ }
-    ensures one_damage { (name : AnyName) (image : List ℕ) (limit j k : ℕ) → IsDamaged name limit j image → IsDamaged name limit k image → j ≡ k }
+    ensures some { (name : AnyName) (image : List ℕ) (limit : ℕ) → AreBytes image →
+        IsForeign name image ⊎ IsDamagedSomewhere name limit image ⊎ StandsForSome name limit image }
+    ensures not_foreign { (name : AnyName) (image : List ℕ) (frames : List (Frame Entry)) →
+        StandsFor name frames image → IsForeign name image → ⊥ }
+    ensures not_both { (name : AnyName) (image : List ℕ) (limit : ℕ) →
+        IsForeign name image → IsDamagedSomewhere name limit image → ⊥ }
+    ensures not_damaged { (name : AnyName) (image : List ℕ) (limit : ℕ) →
+        StandsForSome name limit image → IsDamagedSomewhere name limit image → ⊥ }
+    ensures one_damage { (name : AnyName) (image : List ℕ) (limit j k : ℕ) →
+        IsDamaged name limit j image → IsDamaged name limit k image → j ≡ k }
 {
     commit_log::an_image_is_read_one_way::<Epochs>();
 }

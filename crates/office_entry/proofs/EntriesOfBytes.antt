@@ -11,7 +11,7 @@ use Rattle.ali_base.specs.Parity.{parity_text}
 use Rattle.ali_base.specs.declared.parity.Parity.{Parity}
 use Rattle.ali_base.specs.declared.parity.Parity.TheVariants.{Odd, Even, Both}
 use Rattle.ali_base.specs.declared.street_key.StreetKey.{StreetKey}
-use Rattle.ali_base.specs.Fronts.{front, number_at, number_bytes, zero_filled}
+use Rattle.ali_base.specs.Fronts.{are_zeros, front, number_at, number_bytes, zero_filled}
 use Rattle.ali_base.proofs.DayTexts.{day_of-text, day_of-found, length-day_text}
 use Rattle.ali_base.proofs.Steps.{bind_ok, bind_some, some_is}
 use Rattle.office_entry.specs.declared.edit.Edit.{Edit as AnyEdit}
@@ -23,23 +23,12 @@ use Rattle.office_entry.specs.EditKeys.{IsEditKey}
 use Rattle.office_entry.specs.Edits.{IsEdit}
 use Rattle.office_entry.specs.BytesReading.{edit_from}
 use Rattle.office_entry.specs.EntryBytes.{IsInRange, IsCycle, entry_fields, entry_bytes}
-use Rattle.office_entry.specs.EntryReading.{are_zeros, number_within, open_from, line_from, edit_width, edit_entry_from, entry_from}
+use Rattle.office_entry.specs.EntryReading.{number_within, open_from, line_from, edit_width, edit_entry_from, entry_from}
 use Rattle.office_entry.proofs.EditsOfBytes.{edit_found, edit_again}
-use Rattle.ali_base.proofs.FrontsAgain.{IsBytes, Takes-then, front_takes, front_again, number_takes, number_again, text_fits}
+use Rattle.ali_base.proofs.FrontsAgain.{IsBytes, Takes-then, front_takes, front_again, number_takes, number_again, text_fits, zeros_are, are_zeros-zeros}
 use Rattle.office_entry.proofs.Options.{when_true, choose}
 
 -- ---- zeros
-
-zeros_are : (bytes : List ℕ) → are_zeros bytes ≡ true → bytes ≡ replicate (length bytes) 0
-zeros_are [] h = refl
-zeros_are (x ∷ xs) h =
-    let p = and_parts (x == 0) (are_zeros xs) h in
-    let first : x ≡ 0 = grind (arith, nat_tests, p.0) in
-    ap (λ z. z ∷ xs) first ∙ ap (λ z. 0 ∷ z) (zeros_are xs p.1)
-
-are_zeros-zeros : (n : ℕ) → are_zeros (replicate n 0) ≡ true
-are_zeros-zeros zero = refl
-are_zeros-zeros (suc n) = are_zeros-zeros n
 
 -- fields, and zeros up to the whole width
 filled_is : (bytes text rest : List ℕ) → bytes ≡ text ++ rest → are_zeros rest ≡ true → length bytes ≡ 631 → bytes ≡ zero_filled 631 text

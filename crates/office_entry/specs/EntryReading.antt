@@ -1,19 +1,14 @@
 -- Reading the bytes of an entry from their front.
 use Rattle.std.specs.Prelude.{ℕ, ◌==◌, ◌&&◌, Bool, nat_le, List, [], ◌∷◌, Option, None, if◌then◌else◌}
-use Rattle.std.specs.List.{list_all}
 use Rattle.ali_base.specs.CivilDay.{day_of}
 use Rattle.ali_base.specs.Company.{company_of}
 use Rattle.ali_base.specs.declared.cycle.TheConstants.{LAST_CYCLE}
 use Rattle.ali_base.specs.declared.editor.TheConstants.{EDITORS, LAST_SERIAL}
-use Rattle.ali_base.specs.Fronts.{front, number_at}
+use Rattle.ali_base.specs.Fronts.{are_zeros, front, number_at}
 use Rattle.ali_base.specs.Steps.{◌>>=◌, when}
 use Rattle.office_entry.specs.BytesReading.{edit_from}
 use Rattle.office_entry.specs.declared.entry.Entry.{Entry}
 use Rattle.office_entry.specs.declared.entry.Entry.TheVariants.{Open, Line, Edit}
-
--- nothing but zeros
-abbrev pub are_zeros : List ℕ → Bool
-are_zeros bytes = list_all (λ byte. byte == 0) bytes
 
 -- the number, where it lies from low to high
 abbrev pub number_within : ℕ → ℕ → ℕ → Option ℕ

@@ -1,18 +1,12 @@
 //! Reading the bytes of an entry.
 ghost use Rattle.std.specs.Prelude.{◌≡◌};
+ghost use Rattle.ali_base.specs.Fronts.{are_zeros};
 ghost use Rattle.ali_base.specs.Steps.{when};
-ghost use Rattle.office_entry.specs.EntryReading.{are_zeros, open_from, line_from, edit_width, edit_entry_from, entry_from};
+ghost use Rattle.office_entry.specs.EntryReading.{open_from, line_from, edit_width, edit_entry_from, entry_from};
 
 use crate::entry::Entry;
 use crate::reading::edit_from;
-use ali_base::{Company, Cycle, Day, Editor, Serial, first_bytes, front, number_at};
-
-// Whether they are nothing but zeros.
-fn are_zeros(bytes: &[u8]) -> bool
-    ensures { result ≡ are_zeros bytes.now }
-{
-    bytes.iter().all(|byte| *byte == 0)
-}
+use ali_base::{Company, Cycle, Day, Editor, Serial, are_zeros, first_bytes, front, number_at};
 
 // The entry, where only zeros are left after its fields.
 fn filled(rest: &[u8], entry: Entry) -> Option<Entry>

@@ -6,9 +6,7 @@ pub returns-clause-back : goal.returns-clause-back
 returns-clause-back c = is_body-body
 
 pub returns-clause-only : goal.returns-clause-only
-returns-clause-only c k bytes all len is =
-    let found = body_found k bytes (all_bytes bytes all) is in
-    (found.0, found.1.lawful, found.1.spelled)
+returns-clause-only c k bytes all is = body_found k bytes (all_bytes bytes all) is
 
 pub returns-clause-one : goal.returns-clause-one
 returns-clause-one c = one_frame

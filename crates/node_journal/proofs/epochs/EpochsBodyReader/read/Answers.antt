@@ -1,9 +1,10 @@
 use Rattle.std.proofs.Common.{◌≡◌, ◌<◌, ◌^◌, ℕ, List, [], ◌∷◌, ◌++◌, map, Some, sym, ap, ◌∙◌, arith}
 use Rattle.std.specs.Prelude.{All, is_some, option_map}
 use Rattle.std.proofs.lemmas.List.{map-append}
-use Rattle.std.proofs.lemmas.List.Elements.{All-push, All-from_get_or}
+use Rattle.std.proofs.lemmas.List.Elements.{All-push}
 use Rattle.office_entry.specs.declared.entry.Entry.{Entry}
-use Rattle.ali_base.proofs.FrontsAgain.{IsBytes}
+use Rattle.ali_base.proofs.FrontsAgain.{IsBytes, bytes_all}
+use Rattle.ali_base.specs.Fronts.{AreBytes}
 use Rattle.pair_world.specs.Frames.{Frame}
 use Rattle.commit_log.specs.LogState.{with_body}
 use Rattle.node_journal.specs.EpochsRead.{AreEpochsOf, epoch_in}
@@ -20,7 +21,7 @@ one_more bodies old new bytes k f fits read held pushed =
     let found = frame_found k bytes f fits read in
     let epoch : f.epoch ≡ epoch_in bytes = sym (ap epoch_in found.spelled ∙ epoch_in-body k f found.lawful) in
     record {
-      bytes = All-push (All (λ byte. byte < 2 ^ 8)) bodies bytes held.bytes (All-from_get_or (λ byte. byte < 2 ^ 8) bytes 0 (λ i inside. fits i));
+      bytes = All-push AreBytes bodies bytes held.bytes (bytes_all bytes fits);
       read = pushed ∙ ap (λ l. l ++ f.epoch ∷ []) held.read ∙ ap (λ e. map epoch_in bodies ++ e ∷ []) epoch ∙ sym (map-append epoch_in bodies (bytes ∷ []));
     }
 

@@ -1,6 +1,9 @@
-use Rattle.std.proofs.Common.{refl, sym, subst, arith}
+use Rattle.std.proofs.Common.{◌≡◌, ℕ, ◌≤◌, length, refl, sym, subst, ◌∙◌, arith}
 use Rattle.commit_log.specs.OpenLog as log
-use Rattle.node_journal.specs.OpenJournal.{Refused}
+use Rattle.commit_log.specs.declared.opening.OpenFault.{OpenFault}
+use Rattle.commit_log.specs.declared.opening.OpenFault.TheVariants as failing
+use Rattle.node_journal.specs.declared.faults.JournalFault.TheVariants as opening
+use Rattle.node_journal.specs.OpenJournal.{Refused, refusal}
 use Rattle.node_journal.proofs.Represented.{counts, shown_frames, refused}
 use Rattle.node_journal.proofs.journal.Journal.reopen.Goals as goal
 
@@ -24,6 +27,12 @@ returns-in-Ok-clause-answer g c =
           (shown.frames, shown.stands, record { kept = shown.kept; known = shown.known_are });
     }
 
+-- a log is not refused for want of memory
+never : (fault : OpenFault) → refusal fault ≡ opening.NoMemory → ⊥
+never failing.DiskFault h = cc
+never failing.Foreign h = cc
+never (failing.Damaged k) h = cc
+
 pub returns-in-Err-clause-answer : goal.returns-in-Err-clause-answer
 returns-in-Err-clause-answer g c =
     let state = g.D.Disk.state in
@@ -32,8 +41,12 @@ returns-in-Err-clause-answer g c =
     let before = state (log.disk_of old.log) in
     let after = state (log.disk_of c.reopen.new.self) in
     let limit = log.limit_of old.log in
-    record {
-      stays = found.stays;
-      faults = found.faults;
-      cause = subst (Refused old.name limit before after) (sym c.refusal.ensures) (refused old.name limit _ before after c.in-Err.fault c.first_block-block.ensures.head found.cause);
-    }
+    (
+      record {
+        stays = found.stays;
+        faults = found.faults;
+        cause = subst (Refused old.name limit before after) (sym c.refusal.ensures) (refused old.name limit _ before after c.in-Err.fault c.first_block-block.ensures.head found.cause);
+      },
+      λ memory. never c.in-Err.fault (sym c.refusal.ensures ∙ memory),
+      c.truncate-in-Err.ensures.items,
+    )
