@@ -1,23 +1,20 @@
 -- What each row keeps in an edit, and that no number comes or goes.
 use Rattle.std.proofs.Common.{◌≡◌, ℕ, ◌+◌, ◌≤◌, Bool, true, false, cond, List, [], ◌∷◌, ◌++◌, length, map, take, drop, refl, ap, sym, ◌∙◌, subst, arith, Option, Some, None, is_none, is_some, length-append, length-drop, IfSome}
-use Rattle.std.specs.Option.{option_map, option_map_or, unwrap_or}
-use Rattle.std.specs.FinMap.{FinMap, get, len, entries, from_entries, get-entries, get-from_entries, len-insert, same_map}
+use Rattle.std.specs.Option.{option_map, option_map_or}
+use Rattle.std.specs.FinMap.{get, len, entries, from_entries, get-entries, get-from_entries, len-insert, same_map}
 use Rattle.std.specs.FinMap.Entries as ordered
 use Rattle.std.specs.Ordering.{eq_by_cmp}
 use Rattle.std.proofs.lemmas.Cmp.{nat_list_cmp_total}
 use Rattle.std.proofs.lemmas.List.{length-take-le}
 use Rattle.std.proofs.lemmas.Map.Lookups.{exact_bytes}
-use Rattle.ali_record.specs.Layout.{field_of}
 use Rattle.ali_record.specs.FieldChanges.{with_field}
-use Rattle.ali_record.specs.declared.field.Field.{Field}
-use Rattle.ali_record.specs.declared.field.Field.TheVariants.{HouseNumber, Esn, Company, TelephoneNumber}
+use Rattle.ali_record.specs.declared.field.Field.TheVariants.{HouseNumber, Esn}
 use Rattle.ali_record.proofs.Overwriting.{over, part_before, part_after}
 use Rattle.msag_ranges.specs.StreetGuide.{StreetGuide, range_of}
 use Rattle.msag_ranges.specs.declared.range.Range.{Range}
 use Rattle.number_life.specs.declared.row.Row.{Row}
-use Rattle.number_life.specs.NumberLife.{owner}
 use Rattle.number_table.specs.NumberTable.{NumberTable, tn_cmp}
-use Rattle.number_table.specs.HeldRows.{changed, esn_row, holds_row, shifted_row}
+use Rattle.number_table.specs.HeldRows.{changed}
 use Rattle.number_table.proofs.ChangedRows.{get-changed}
 use Rattle.office_entry.specs.declared.edit.Edit.{Edit}
 use Rattle.office_entry.specs.declared.edit.Edit.TheVariants.{Add, Retire, Split, Renumber, SetEsn}
