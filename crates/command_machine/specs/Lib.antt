@@ -5,3 +5,5 @@ pub mod Replies
 pub mod Machine
 pub mod CommandRows
 pub mod MadeReply
+pub mod CommandText
+pub mod LineReading

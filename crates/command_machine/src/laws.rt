@@ -1,5 +1,5 @@
 //! Laws of the machine, for whoever reads its definitions.
-ghost use Rattle.std.specs.Prelude.{◌≡◌, ◌↔◌, List, ◌++◌, All, AllPairs, Option, Some, Ok};
+ghost use Rattle.std.specs.Prelude.{◌≡◌, ℕ, ◌↔◌, List, ◌++◌, All, AllPairs, Option, Some, Ok};
 ghost use Rattle.sequence_once.specs.declared.standing.Standing.{Standing};
 ghost use Rattle.sequence_once.specs.declared.standing.Standing.TheVariants.{Complete};
 ghost use Rattle.msag_edits.specs.GuideSoundness.{AreSound};
@@ -8,10 +8,18 @@ ghost use Rattle.office_state.specs.History.{IsLegal, Repeats};
 ghost use Rattle.batch_desk.specs.declared.job.Job.{Job};
 ghost use Rattle.batch_desk.specs.Jobs.{job_standing, IsStillKept};
 ghost use Rattle.command_machine.specs.Commands.{Command, Batch, IsCommand};
+ghost use Rattle.command_machine.specs.declared.command_line.CommandLine.{CommandLine};
+ghost use Rattle.command_machine.specs.CommandText.{SpellsLine};
+ghost use Rattle.command_machine.specs.LineReading.{line_of};
 ghost use Rattle.command_machine.specs.Rows.{Row, Gives, reply_in, event_in};
 ghost use Rattle.command_machine.specs.Replies.{Reply, reply_text};
 ghost use Rattle.command_machine.specs.Machine.{Machine, Event, start, state_of, office_limits};
 ghost use Rattle.command_machine.specs.CommandRows.{reply, after, after_all};
+
+/// What is read as the line of a command is what is spelled, and what is spelled so is read.
+pub fn command_lines_are_read_as_spelled()
+    ensures { (text : List ℕ) (line : CommandLine) → (line_of text ≡ Some line) ↔ SpellsLine text line }
+{}
 
 /// A row gives one reply and one event, or none: those that its reading from the front finds.
 pub fn rows_are_read_one_way()

@@ -1,51 +1,12 @@
--- Files: their lengths, and their bytes.
-use Rattle.std.proofs.Common.{◌≡◌, inl, inr, ℕ, ◌==◌, ◌≤◌, Bool, true, false, cond, ◌&&◌, nat_le, nat_lt, List, [], ◌∷◌, ◌++◌, length, take, drop, refl, ap, sym, ◌∙◌, arith, Option, Some, None, option_and_then, codes, length-append}
-use Rattle.std.specs.Fmt.{decimal}
-use Rattle.std.specs.Str.{bytes_eq}
+-- The bytes of files.
+use Rattle.std.proofs.Common.{◌≡◌, inl, inr, ℕ, ◌==◌, ◌≤◌, Bool, true, false, cond, nat_lt, List, [], ◌∷◌, ◌++◌, length, take, drop, refl, ap, sym, ◌∙◌, arith, Option, Some, None, length-append}
 use Rattle.std.proofs.Math.Seq.{take-append_seam, drop-append_seam}
-use Rattle.std.proofs.lemmas.Bool.{and_parts}
 use Rattle.std.proofs.lemmas.Bool.Decides.{nat_tests}
 use Rattle.std.proofs.lemmas.List.{take-append-drop, length-take-le}
 use Rattle.std.proofs.lemmas.Option.{cond_some, some_pair_parts}
-use Rattle.std.proofs.lemmas.Slice.Eq.{bytes_eq-Decides}
-use Rattle.ali_base.specs.Steps.{when}
-use Rattle.office_run.specs.ScriptGrammar.{LineEnds, BeginsLine, ask_text, file_text}
-use Rattle.command_machine.specs.Commands.{Command, File, file_limit}
-use Rattle.ali_base.proofs.Steps.{bind_ok}
-use Rattle.text_line.specs.WordReading.{number_of, split_once}
-use Rattle.text_line.proofs.NumberTexts.{number_of-decimal, decimal-number_of}
-use Rattle.text_line.proofs.Splits.{split_again, split_is}
-use Rattle.office_run.specs.ScriptReading.{file_length_of, content_at, ended}
-
-pub file_length_of-text : (len : ℕ) → len ≤ file_limit → file_length_of (file_text len) ≡ Some len
-unfolding file_length_of
-file_length_of-text len small =
-    let low : nat_le len file_limit ≡ true = grind (arith, nat_tests) in
-    rw (split_again 32 (codes "FILE") (decimal len) (refl, (refl, (refl, (refl, tt)))), number_of-decimal len (omega arith), low) refl
-
--- the text of a request is the length of no file
-pub file_length_of-ask : (position : ℕ) (tn : List ℕ) (since : ℕ) → file_length_of (ask_text position tn since) ≡ None
-unfolding file_length_of
-file_length_of-ask position tn since =
-    let words = codes "a" ++ 32 ∷ (decimal position ++ 32 ∷ (tn ++ 32 ∷ decimal since)) in
-    rw (split_again 32 (codes "ASK") words (refl, (refl, (refl, tt)))) (other (number_of words))
-  where
-    other : (o : Option ℕ) → option_and_then (λ len. when (bytes_eq (codes "ASK") (codes "FILE") && nat_le len file_limit) len) o ≡ None
-    other None = refl
-    other (Some len) = refl
-
--- a line with the length of a file is its text
-pub text-file_length_of : (line : List ℕ) (len : ℕ) → file_length_of line ≡ Some len → (len ≤ file_limit) × (line ≡ file_text len)
-unfolding file_length_of
-text-file_length_of line len h =
-    let word = bind_ok (split_once 32 line) _ len h in
-    let number = bind_ok (number_of word.0.1) _ len word.2 in
-    let test = cond_some (bytes_eq word.0.0 (codes "FILE") && nat_le number.0 file_limit) number.0 len number.2 in
-    let both = and_parts (bytes_eq word.0.0 (codes "FILE")) (nat_le number.0 file_limit) test.0 in
-    let first = (bytes_eq-Decides word.0.0 (codes "FILE")).0 both.0 in
-    let second = (decimal-number_of word.0.1 number.0 number.1).0 in
-    let low : number.0 ≤ file_limit = grind (arith, nat_tests, both.1) in
-    (omega arith, split_is 32 line word.0 word.1 ∙ ap (λ z. z ++ 32 ∷ word.0.1) first ∙ ap (λ z. codes "FILE" ++ 32 ∷ z) (second ∙ ap decimal test.1))
+use Rattle.command_machine.specs.Commands.{Command, File}
+use Rattle.office_run.specs.ScriptGrammar.{LineEnds, BeginsLine}
+use Rattle.office_run.specs.ScriptReading.{content_at, ended}
 
 ended-ends : (content tail rest : List ℕ) → LineEnds tail rest → ended content tail ≡ Some (File content, rest)
 ended-ends content tail rest (inl end) = ap (ended content) end

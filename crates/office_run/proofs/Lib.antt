@@ -1,7 +1,5 @@
-pub mod AskTexts
 pub mod CommandTexts
 pub mod Completeness
-pub mod EditTexts
 pub mod FileTexts
 pub mod LineTexts
 pub mod Scripts

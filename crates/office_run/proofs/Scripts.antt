@@ -1,7 +1,8 @@
 -- A script has one reading.
 use Rattle.std.proofs.Common.{◌≡◌, ℕ, ◌+◌, ◌≤◌, List, [], ◌∷◌, ◌++◌, length, None, codes, arith, refl, ap, sym, ◌∙◌, subst}
 use Rattle.std.proofs.lemmas.Option.{some_pair_parts}
-use Rattle.office_run.specs.ScriptGrammar.{ask_text, file_text, edit_text, BeginsWith, Reads, IsScript, StopsAfter}
+use Rattle.office_run.specs.ScriptGrammar.{BeginsWith, Reads, IsScript, StopsAfter}
+use Rattle.command_machine.specs.CommandText.{ask_text, file_text, edit_text}
 use Rattle.command_machine.specs.Commands.{Command, Ask, File, Edit, Next, Batch}
 use Rattle.office_run.specs.ScriptReading.{command_at}
 use Rattle.office_run.proofs.CommandTexts.{command_at-begins}

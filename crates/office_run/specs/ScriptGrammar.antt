@@ -3,18 +3,7 @@ use Rattle.std.specs.Prelude.{◌≡◌, ◌≢◌, ◌⊎◌, ℕ, ◌^◌, ◌
 use Rattle.std.specs.Fmt.{decimal}
 use Rattle.office_entry.specs.EditText.{IsEditText}
 use Rattle.command_machine.specs.Commands.{Command, Ask, File, Edit, Next, Batch, IsCommand}
-
--- `ASK a position tn since`; the one node's letter is a
-abbrev pub ask_text : ℕ → List ℕ → ℕ → List ℕ
-ask_text position tn since = codes "ASK" ++ 32 ∷ (codes "a" ++ 32 ∷ (decimal position ++ 32 ∷ (tn ++ 32 ∷ decimal since)))
-
--- `FILE length`
-abbrev pub file_text : ℕ → List ℕ
-file_text len = codes "FILE" ++ 32 ∷ decimal len
-
--- `EDIT editor serial`, and the text of the edit
-abbrev pub edit_text : ℕ → ℕ → List ℕ → List ℕ
-edit_text editor serial text = codes "EDIT" ++ 32 ∷ (decimal editor ++ 32 ∷ (decimal serial ++ 32 ∷ text))
+use Rattle.command_machine.specs.CommandText.{ask_text, file_text, edit_text}
 
 -- the bytes are the end of a line, which may be missing at the end of the bytes; rest is what is left
 abbrev pub LineEnds : List ℕ → List ℕ → Type 0

@@ -18,15 +18,14 @@ use Rattle.office_entry.specs.Edits.{IsEdit}
 use Rattle.office_entry.specs.EditText.{is_sent_byte, StreetTexts, AreStreetTexts, street_text, difference_text, Spells, IsEditText}
 use Rattle.office_entry.specs.EditReading.{edit_of_text}
 use Rattle.office_entry.proofs.EditTexts.{text_read, text_again}
-use Rattle.office_run.specs.ScriptGrammar.{edit_text}
-use Rattle.command_machine.specs.Commands.{Command, Edit}
+use Rattle.command_machine.specs.declared.command_line.CommandLine.{CommandLine}
+use Rattle.command_machine.specs.declared.command_line.CommandLine.TheVariants.{Edit}
 use Rattle.ali_base.proofs.Steps.{bind_ok}
 use Rattle.text_line.specs.WordReading.{number_of, split_once}
 use Rattle.text_line.proofs.NumberTexts.{number_of-decimal, decimal-number_of}
 use Rattle.text_line.proofs.Splits.{Clear, Clear-append, split_again, split_is, decimal_clear}
-use Rattle.office_run.specs.ScriptReading.{ask_of, edit_of_line, file_length_of}
-use Rattle.office_run.proofs.AskTexts.{ask-ask_of}
-use Rattle.office_run.proofs.FileTexts.{text-file_length_of}
+use Rattle.ali_base.specs.declared.editor.TheConstants.{EDITORS, LAST_SERIAL}
+use Rattle.command_machine.specs.LineReading.{edit_of}
 
 -- a field, a mark that is no line end, and more
 field_clear : (field : List ℕ) (mark : ℕ) (rest : List ℕ) → Clear 10 field → (mark == 10) ≡ false → Clear 10 rest → Clear 10 (field ++ mark ∷ rest)
@@ -83,19 +82,21 @@ spelled_clear (SetEsn id esn) text h s =
 pub text_clear : (text : List ℕ) (edit : GuideEdit) → IsEditText text edit → Clear 10 text
 text_clear text edit h = spelled_clear edit text h.lawful h.spelled
 
--- the line of an edit is read as it
-pub edit_of_line-text : (editor serial : ℕ) (edit : GuideEdit) (text : List ℕ) → IsEditor editor → IsSerial serial → IsEditText text edit
-    → edit_of_line (edit_text editor serial text) ≡ Some (Edit editor serial edit)
-unfolding edit_of_line
-edit_of_line-text editor serial edit text he hs h =
+-- the words behind `EDIT`
+abbrev pub edit_words : ℕ → ℕ → List ℕ → List ℕ
+edit_words editor serial text = decimal editor ++ 32 ∷ (decimal serial ++ 32 ∷ text)
+
+-- they are read as the edit
+pub edit_of-text : (editor serial : ℕ) (edit : GuideEdit) (text : List ℕ) → IsEditor editor → IsSerial serial → IsEditText text edit → edit_of (edit_words editor serial text) ≡ Some (Edit editor serial edit)
+unfolding edit_of
+edit_of-text editor serial edit text he hs h =
     let e_small : editor < 2 ^ 32 = omega (arith, he.1) in
     let s_small : serial < 2 ^ 32 = omega (arith, hs.1) in
     let e_low : nat_le 1 editor ≡ true = grind (arith, nat_tests, he.0) in
-    let e_high : nat_le editor 64 ≡ true = grind (arith, nat_tests, he.1) in
+    let e_high : nat_le editor EDITORS ≡ true = grind (arith, nat_tests, he.1) in
     let s_low : nat_le 1 serial ≡ true = grind (arith, nat_tests, hs.0) in
-    let s_high : nat_le serial 999_999_999 ≡ true = grind (arith, nat_tests, hs.1) in
+    let s_high : nat_le serial LAST_SERIAL ≡ true = grind (arith, nat_tests, hs.1) in
     rw (
-      split_again 32 (codes "EDIT") (decimal editor ++ 32 ∷ (decimal serial ++ 32 ∷ text)) (refl, (refl, (refl, (refl, tt)))),
       split_again 32 (decimal editor) (decimal serial ++ 32 ∷ text) (decimal_clear 32 refl editor e_small),
       split_again 32 (decimal serial) text (decimal_clear 32 refl serial s_small),
       number_of-decimal editor e_small,
@@ -107,24 +108,8 @@ edit_of_line-text editor serial edit text he hs h =
       s_high,
     ) refl
 
-none : {A : Type 0} (o : Option A) → ((x : A) → o ≡ Some x → ⊥) → o ≡ None
-none None h = refl
-none (Some x) h = absurd (h x refl)
-
--- the line of an edit is the length of no file: it begins with another letter
-pub file_length_of-edit : (editor serial : ℕ) (text : List ℕ) → file_length_of (edit_text editor serial text) ≡ None
-file_length_of-edit editor serial text =
-    let line = edit_text editor serial text in
-    none (file_length_of line) (λ len is. let first : ◌≡◌ {A = ℕ} 69 70 = ap (λ z. get_or z 0 0) (text-file_length_of line len is).1 in omega arith)
-
--- and no request
-pub ask_of-edit : (editor serial : ℕ) (text : List ℕ) → ask_of (edit_text editor serial text) ≡ None
-ask_of-edit editor serial text =
-    let line = edit_text editor serial text in
-    none (ask_of line) (λ c is. let first : ◌≡◌ {A = ℕ} 69 65 = ap (λ z. get_or z 0 0) (ask-ask_of line c is).5 in omega arith)
-
--- the line is this command's, an edit of an editor under a serial
-pub record IsEditLine (line : List ℕ) (command : Command) : Type 0 where
+-- the words are those of an edit of an editor under a serial
+pub record IsEditWords (words : List ℕ) (line : CommandLine) : Type 0 where
   pub editor : ℕ
   pub serial : ℕ
   pub edit : GuideEdit
@@ -132,38 +117,33 @@ pub record IsEditLine (line : List ℕ) (command : Command) : Type 0 where
   pub editor_is : IsEditor editor
   pub serial_is : IsSerial serial
   pub text_is : IsEditText text edit
-  pub command_is : command ≡ Edit editor serial edit
-  pub line_is : line ≡ edit_text editor serial text
+  pub line_is : line ≡ Edit editor serial edit
+  pub words_are : words ≡ edit_words editor serial text
 
--- a line that is read as an edit is the line of an edit
-pub text-edit_of_line : (line : List ℕ) (c : Command) → edit_of_line line ≡ Some c → IsEditLine line c
-unfolding edit_of_line
-text-edit_of_line line c h =
-    let word = bind_ok (split_once 32 line) _ c h in
-    let editor = bind_ok (split_once 32 word.0.1) _ c word.2 in
-    let serial = bind_ok (split_once 32 editor.0.1) _ c editor.2 in
-    let e = bind_ok (number_of editor.0.0) _ c serial.2 in
-    let s = bind_ok (number_of serial.0.0) _ c e.2 in
-    let edit = bind_ok (edit_of_text serial.0.1) _ c s.2 in
-    let is_word = bytes_eq word.0.0 (codes "EDIT") in
-    let test = cond_some (is_word && nat_le 1 e.0 && nat_le e.0 64 && nat_le 1 s.0 && nat_le s.0 999_999_999) (Edit e.0 s.0 edit.0) c edit.2 in
-    let s_high = and_parts (is_word && nat_le 1 e.0 && nat_le e.0 64 && nat_le 1 s.0) (nat_le s.0 999_999_999) test.0 in
-    let s_low = and_parts (is_word && nat_le 1 e.0 && nat_le e.0 64) (nat_le 1 s.0) s_high.0 in
-    let e_high = and_parts (is_word && nat_le 1 e.0) (nat_le e.0 64) s_low.0 in
-    let e_low = and_parts is_word (nat_le 1 e.0) e_high.0 in
-    let first = (bytes_eq-Decides word.0.0 (codes "EDIT")).0 e_low.0 in
+-- words that are read as an edit are those of an edit
+pub text-edit_of : (words : List ℕ) (line : CommandLine) → edit_of words ≡ Some line → IsEditWords words line
+unfolding edit_of
+text-edit_of words line h =
+    let editor = bind_ok (split_once 32 words) _ line h in
+    let serial = bind_ok (split_once 32 editor.0.1) _ line editor.2 in
+    let e = bind_ok (number_of editor.0.0) _ line serial.2 in
+    let s = bind_ok (number_of serial.0.0) _ line e.2 in
+    let edit = bind_ok (edit_of_text serial.0.1) _ line s.2 in
+    let test = cond_some (nat_le 1 e.0 && nat_le e.0 EDITORS && nat_le 1 s.0 && nat_le s.0 LAST_SERIAL) (Edit e.0 s.0 edit.0) line edit.2 in
+    let s_high = and_parts (nat_le 1 e.0 && nat_le e.0 EDITORS && nat_le 1 s.0) (nat_le s.0 LAST_SERIAL) test.0 in
+    let s_low = and_parts (nat_le 1 e.0 && nat_le e.0 EDITORS) (nat_le 1 s.0) s_high.0 in
+    let e_parts = and_parts (nat_le 1 e.0) (nat_le e.0 EDITORS) s_low.0 in
     let second = (decimal-number_of editor.0.0 e.0 e.1).0 in
     let third = (decimal-number_of serial.0.0 s.0 s.1).0 in
-    let behind_editor = split_is 32 editor.0.1 serial.0 serial.1 ∙ ap (λ z. z ++ 32 ∷ serial.0.1) third in
-    let behind_word = split_is 32 word.0.1 editor.0 editor.1 ∙ ap (λ z. z ++ 32 ∷ editor.0.1) second ∙ ap (λ z. decimal e.0 ++ 32 ∷ z) behind_editor in
+    let behind = split_is 32 editor.0.1 serial.0 serial.1 ∙ ap (λ z. z ++ 32 ∷ serial.0.1) third in
     record {
       editor = e.0;
       serial = s.0;
       edit = edit.0;
       text = serial.0.1;
-      editor_is = (grind (arith, nat_tests, e_low.1), grind (arith, nat_tests, e_high.1));
+      editor_is = (grind (arith, nat_tests, e_parts.0), grind (arith, nat_tests, e_parts.1));
       serial_is = (grind (arith, nat_tests, s_low.1), grind (arith, nat_tests, s_high.1));
       text_is = text_read serial.0.1 edit.0 edit.1;
-      command_is = sym test.1;
-      line_is = split_is 32 line word.0 word.1 ∙ ap (λ z. z ++ 32 ∷ word.0.1) first ∙ ap (λ z. codes "EDIT" ++ 32 ∷ z) behind_word;
+      line_is = sym test.1;
+      words_are = split_is 32 words editor.0 editor.1 ∙ ap (λ z. z ++ 32 ∷ editor.0.1) second ∙ ap (λ z. decimal e.0 ++ 32 ∷ z) behind;
     }

@@ -10,13 +10,15 @@ use Rattle.std.proofs.lemmas.Option.{cond_some}
 use Rattle.std.proofs.lemmas.Slice.Eq.{bytes_eq-Decides}
 use Rattle.std.proofs.lemmas.List.Elements.{recursion_from_All, All-from_recursion}
 use Rattle.ali_base.specs.TelephoneNumber.{tn_of, IsTn, IsDigit}
-use Rattle.office_run.specs.ScriptGrammar.{ask_text}
-use Rattle.command_machine.specs.Commands.{Command, Ask, IsAsk}
+use Rattle.command_machine.specs.Commands.{IsAsk}
+use Rattle.command_machine.specs.declared.command.Ask.{Ask as AnyAsk}
+use Rattle.command_machine.specs.declared.command_line.CommandLine.{CommandLine}
+use Rattle.command_machine.specs.declared.command_line.CommandLine.TheVariants.{Ask}
 use Rattle.ali_base.proofs.Steps.{bind_ok}
 use Rattle.text_line.specs.WordReading.{number_of, split_once}
 use Rattle.text_line.proofs.NumberTexts.{number_of-decimal, decimal-number_of}
 use Rattle.text_line.proofs.Splits.{Clear, split_again, split_is, listed_clear, decimal_clear}
-use Rattle.office_run.specs.ScriptReading.{ask_of}
+use Rattle.command_machine.specs.LineReading.{ask_of}
 
 pub tn_clear : (mark : ℕ) → is_ascii_digit mark ≡ false → (tn : List ℕ) → tn_of tn ≡ Some tn → Clear mark tn
 unfolding tn_of
@@ -56,14 +58,20 @@ number-tn_of tn h =
     let ten : length tn ≡ 10 = grind (arith, nat_tests) in
     (ten, All-from_recursion IsDigit tn (listed_digits tn parts.1))
 
-pub ask_of-text : (p : ℕ) (tn : List ℕ) (since : ℕ) → IsAsk p tn since → ask_of (ask_text p tn since) ≡ Some (Ask p tn since)
+-- the words behind `ASK`
+abbrev pub ask_words : ℕ → List ℕ → ℕ → List ℕ
+ask_words p tn since = codes "a" ++ 32 ∷ (decimal p ++ 32 ∷ (tn ++ 32 ∷ decimal since))
+
+pub ask_of-text : (ask : AnyAsk) → IsAsk ask.position ask.tn ask.since → ask_of (ask_words ask.position ask.tn ask.since) ≡ Some (Ask ask)
 unfolding ask_of
-ask_of-text p tn since h =
+ask_of-text ask h =
+    let p = ask.position in
+    let tn = ask.tn in
+    let since = ask.since in
     let ten : tn_of tn ≡ Some tn = tn_of-number tn h.number in
     let low : nat_le 1 p ≡ true = grind (arith, nat_tests, h.low) in
     let high : nat_le p 64 ≡ true = grind (arith, nat_tests, h.high) in
     rw (
-      split_again 32 (codes "ASK") (codes "a" ++ 32 ∷ (decimal p ++ 32 ∷ (tn ++ 32 ∷ decimal since))) (refl, (refl, (refl, tt))),
       split_again 32 (codes "a") (decimal p ++ 32 ∷ (tn ++ 32 ∷ decimal since)) (refl, tt),
       split_again 32 (decimal p) (tn ++ 32 ∷ decimal since) (decimal_clear 32 refl p (omega (arith, h.high))),
       split_again 32 tn (decimal since) (tn_clear 32 refl tn ten),
@@ -84,31 +92,35 @@ tn_is bytes tn h =
 is_bytes : (xs ys : List ℕ) → bytes_eq xs ys ≡ true → xs ≡ ys
 is_bytes xs ys h = (bytes_eq-Decides xs ys).0 h
 
-pub ask-ask_of : (line : List ℕ) (c : Command) → ask_of line ≡ Some c → (p : ℕ) × (tn : List ℕ) × (since : ℕ) × IsAsk p tn since × (c ≡ Ask p tn since) × (line ≡ ask_text p tn since)
+-- the words are those of a request
+pub record IsAskWords (words : List ℕ) (line : CommandLine) : Type 0 where
+  pub ask : AnyAsk
+  pub lawful : IsAsk ask.position ask.tn ask.since
+  pub line_is : line ≡ Ask ask
+  pub words_are : words ≡ ask_words ask.position ask.tn ask.since
+
+pub ask-ask_of : (words : List ℕ) (line : CommandLine) → ask_of words ≡ Some line → IsAskWords words line
 unfolding ask_of
-ask-ask_of line c h =
-    let a = bind_ok (split_once 32 line) _ c h in
-    let b = bind_ok (split_once 32 a.0.1) _ c a.2 in
-    let d = bind_ok (split_once 32 b.0.1) _ c b.2 in
-    let e = bind_ok (split_once 32 d.0.1) _ c d.2 in
-    let n = bind_ok (number_of d.0.0) _ c e.2 in
-    let t = bind_ok (tn_of e.0.0) _ c n.2 in
-    let s = bind_ok (number_of e.0.1) _ c t.2 in
-    let w = cond_some (bytes_eq a.0.0 (codes "ASK") && bytes_eq b.0.0 (codes "a") && nat_le 1 n.0 && nat_le n.0 64) (Ask n.0 t.0 s.0) c s.2 in
-    let high = and_parts (bytes_eq a.0.0 (codes "ASK") && bytes_eq b.0.0 (codes "a") && nat_le 1 n.0) (nat_le n.0 64) w.0 in
-    let low = and_parts (bytes_eq a.0.0 (codes "ASK") && bytes_eq b.0.0 (codes "a")) (nat_le 1 n.0) high.0 in
-    let words = and_parts (bytes_eq a.0.0 (codes "ASK")) (bytes_eq b.0.0 (codes "a")) low.0 in
+ask-ask_of words line h =
+    let b = bind_ok (split_once 32 words) _ line h in
+    let d = bind_ok (split_once 32 b.0.1) _ line b.2 in
+    let e = bind_ok (split_once 32 d.0.1) _ line d.2 in
+    let n = bind_ok (number_of d.0.0) _ line e.2 in
+    let t = bind_ok (tn_of e.0.0) _ line n.2 in
+    let s = bind_ok (number_of e.0.1) _ line t.2 in
+    let found : AnyAsk = record { position = n.0; tn = t.0; since = s.0 } in
+    let w = cond_some (bytes_eq b.0.0 (codes "a") && nat_le 1 n.0 && nat_le n.0 64) (Ask found) line s.2 in
+    let high = and_parts (bytes_eq b.0.0 (codes "a") && nat_le 1 n.0) (nat_le n.0 64) w.0 in
+    let low = and_parts (bytes_eq b.0.0 (codes "a")) (nat_le 1 n.0) high.0 in
     let p = decimal-number_of d.0.0 n.0 n.1 in
     let tn = tn_is e.0.0 t.0 t.1 in
     let since = decimal-number_of e.0.1 s.0 s.1 in
     let last : e.0.0 ++ 32 ∷ e.0.1 ≡ t.0 ++ 32 ∷ decimal s.0 = ap (λ z. z ++ 32 ∷ e.0.1) tn.0 ∙ ap (λ z. t.0 ++ 32 ∷ z) since.0 in
     let third : d.0.0 ++ 32 ∷ d.0.1 ≡ decimal n.0 ++ 32 ∷ (t.0 ++ 32 ∷ decimal s.0) = ap (λ z. z ++ 32 ∷ d.0.1) p.0 ∙ ap (λ z. decimal n.0 ++ 32 ∷ z) (split_is 32 d.0.1 e.0 e.1 ∙ last) in
-    let second : b.0.0 ++ 32 ∷ b.0.1 ≡ codes "a" ++ 32 ∷ (decimal n.0 ++ 32 ∷ (t.0 ++ 32 ∷ decimal s.0)) = ap (λ z. z ++ 32 ∷ b.0.1) (is_bytes b.0.0 (codes "a") words.1) ∙ ap (λ z. codes "a" ++ 32 ∷ z) (split_is 32 b.0.1 d.0 d.1 ∙ third) in
-    let first : a.0.0 ++ 32 ∷ a.0.1 ≡ ask_text n.0 t.0 s.0 = ap (λ z. z ++ 32 ∷ a.0.1) (is_bytes a.0.0 (codes "ASK") words.0) ∙ ap (λ z. codes "ASK" ++ 32 ∷ z) (split_is 32 a.0.1 b.0 b.1 ∙ second) in (
-      n.0,
-      t.0,
-      s.0,
-      record { low = grind (arith, nat_tests, low.1); high = grind (arith, nat_tests, high.1); number = number-tn_of t.0 tn.1; small = since.1 },
-      sym w.1,
-      split_is 32 line a.0 a.1 ∙ first,
-    )
+    let second : b.0.0 ++ 32 ∷ b.0.1 ≡ ask_words n.0 t.0 s.0 = ap (λ z. z ++ 32 ∷ b.0.1) (is_bytes b.0.0 (codes "a") low.0) ∙ ap (λ z. codes "a" ++ 32 ∷ z) (split_is 32 b.0.1 d.0 d.1 ∙ third) in
+    record {
+      ask = found;
+      lawful = record { low = grind (arith, nat_tests, low.1); high = grind (arith, nat_tests, high.1); number = number-tn_of t.0 tn.1; small = since.1 };
+      line_is = sym w.1;
+      words_are = split_is 32 words b.0 b.1 ∙ second;
+    }
