@@ -28,11 +28,14 @@ with_count other digest (Ok New) = Ok New
 with_count other digest (Ok (Resume line)) = if other then Err (Differs digest digest) else Ok (Resume line)
 with_count other digest (Ok Complete) = if other then Err (Differs digest digest) else Ok Complete
 
--- what a file is to the state: the standing of its company, cycle, digest and count
+-- what a file with these parts and this digest is to the state: the standing of its company, cycle, digest and count
+abbrev pub standing_by : State → CarrierFile → List ℕ → Result Standing CycleFault
+standing_by s file digest =
+    with_count (is_other_count (count_of file.company file.cycle s.cycles.kept) file.count) digest (standing_of s.cycles file.company file.cycle digest)
+
+-- what a file is to the state
 unfoldable pub file_standing : State → List ℕ → Result Standing CycleFault
-file_standing s bytes =
-    let file = file_of bytes in
-    with_count (is_other_count (count_of file.company file.cycle s.cycles.kept) file.count) (sha256 bytes) (standing_of s.cycles file.company file.cycle (sha256 bytes))
+file_standing s bytes = standing_by s (file_of bytes) (sha256 bytes)
 
 -- the opening of a file's cycle
 abbrev pub opening : List ℕ → Entry

@@ -1,17 +1,15 @@
 //! The entries of a job, one after the other, and what is told of it.
-ghost use Rattle.std.specs.Prelude.{◌≡◌, ◌==◌, ◌≤◌, not, length, count_by, IfOk, Ok};
+ghost use Rattle.std.specs.Prelude.{◌≡◌, ◌≤◌, length, IfOk, Ok};
 ghost use Rattle.ali_base.specs.Editors.{IsEditor};
 ghost use Rattle.ali_base.specs.WholePuts.{Puts};
+ghost use Rattle.batch_frame.specs.declared.fault.TheConstants.{MOST_RECORDS};
 ghost use Rattle.error_files.specs.ErrorFile.{error_file};
 ghost use Rattle.error_files.specs.TextPuts.{PutsText};
-ghost use Rattle.sequence_once.specs.KeptCycles.{IsSound, count_of};
-ghost use Rattle.sequence_once.specs.CycleStanding.{standing_of};
+ghost use Rattle.sequence_once.specs.KeptCycles.{IsSound};
 ghost use Rattle.sequence_once.specs.declared.standing.Standing.TheVariants.{Complete};
 ghost use Rattle.sequence_once.specs.SerialStanding.{last_edit};
-ghost use Rattle.office_entry.specs.declared.entry.Entry.{Entry as AnyEntry};
 ghost use Rattle.office_state.specs.Due.{IsDue};
-ghost use Rattle.batch_desk.specs.EditJobs.{edit_standing, next_edit};
-ghost use Rattle.batch_desk.specs.FileJobs.{file_standing, opening, line_entry, is_other_count, with_count, next_by};
+ghost use Rattle.batch_desk.specs.FileJobs.{file_standing, opening, line_entry, is_other_count, with_count, standing_by, next_by};
 ghost use Rattle.batch_desk.specs.Jobs.{job_standing, next_of, IsReady};
 ghost use Rattle.batch_desk.specs.JobReplies.{read_of, done_of, edit_done, kept_codes, next_line, sized, job_reply};
 
@@ -19,7 +17,7 @@ use crate::job::{FileJob, Job};
 use crate::reply_line::{EditDone, FileDone, FileRead, JobDone, JobRead, done_line, errors_line};
 use ali_base::{Editor, Serial, Sink, SinkFault, put_all};
 use batch_frame::FileView;
-use error_files::{ErrorsEnd, errors_len, put_error_file};
+use error_files::{ErrorsEnd, count_refused, errors_len, put_error_file};
 use office_entry::{Edit, Entry};
 use office_state::{DueFault, Office};
 use sequence_once::{CycleFault, Standing};
@@ -69,10 +67,13 @@ pub fn job_done(office: &Office, job: &Job) -> JobDone
     }
 }
 
-/// Puts the reply to a complete job: its line, and of a file the error file with its length before it.
+/// Puts the reply to a complete job: its line, and of a file the error file with its length before
+/// it.
 pub fn desk_reply<K: Sink>(office: &Office, job: &Job, sink: &mut K) -> ErrorsEnd
     requires { job_standing office.now.state job.now ≡ Ok Complete }
-    ensures put { PutsText K.contents K.faults sink.old sink.new (job_reply office.now.state job.now) result }
+    ensures put {
+        PutsText K.contents K.faults sink.old sink.new (job_reply office.now.state job.now) result
+    }
 {
     match put_reply(office, job, sink) {
         Ok(()) => ErrorsEnd::Done,
@@ -95,7 +96,7 @@ pub(crate) fn view_standing(
     file: &FileView<'_>,
     digest: &[u8; 32],
 ) -> Result<Standing, CycleFault>
-    ensures exact { result ≡ with_count (is_other_count (count_of file.now.company file.now.cycle office.now.state.cycles.kept) file.now.count) digest.now (standing_of office.now.state.cycles file.now.company file.now.cycle digest.now) }
+    ensures exact { result ≡ standing_by office.now.state file.now digest.now }
     ensures sound { IsSound office.now.state.cycles }
 {
     let standing = office.standing(file.company(), file.cycle(), digest);
@@ -151,7 +152,7 @@ fn next_of_edit(
     serial: Serial,
     edit: &Edit,
 ) -> Result<Entry, DueFault>
-    ensures exact { result ≡ next_edit (AnyEntry.Edit editor serial edit.now) (edit_standing office.now.state editor serial edit.now) }
+    ensures exact { result ≡ next_of office.now.state (Job.Edit editor serial edit.now) }
     ensures due { IfOk result (λ e. IsDue office.now.state e) }
     ensures place { length office.now.state.edits ≡ 64 }
     ensures editor { IsEditor editor }
@@ -196,7 +197,7 @@ fn line_entry(file: &FileView<'_>, line: u32) -> Entry
 
 // The line of a file that is next, by its standing.
 fn next_line(count: u32, standing: Result<Standing, CycleFault>) -> u32
-    requires { count ≤ 10_000 }
+    requires { count ≤ MOST_RECORDS }
     ensures { result ≡ next_line count standing }
 {
     match standing {
@@ -221,7 +222,9 @@ fn read_of_file(office: &Office, job: &FileJob) -> FileRead
 
 // What is told of a complete edit.
 fn done_of_edit(office: &Office, editor: Editor, serial: Serial) -> EditDone
-    ensures { JobDone.Edit result ≡ edit_done editor serial (last_edit editor office.now.state.edits) }
+    ensures {
+        JobDone.Edit result ≡ edit_done editor serial (last_edit editor office.now.state.edits)
+    }
 {
     let (code, detail) = match office.edit_kept(editor) {
         Some((_, verdict)) => (verdict.code, verdict.detail),
@@ -260,19 +263,13 @@ fn kept_codes<'a>(office: &'a Office, job: &FileJob) -> &'a [u16]
     }
 }
 
-// How many codes are not 0.
-fn count_refused(codes: &[u16]) -> u32
-    requires { length codes.now ≤ 10_000 }
-    ensures { result ≡ count_by (λ code. not (code == 0)) codes.now }
-{
-    codes.iter().filter(|code| **code != 0).count() as u32
-}
-
 /// Puts the reply to a complete job, as `desk_reply` does.
 #[tactic(auto, unfolding(crate::specs::JobReplies::job_reply))]
 pub fn put_reply<K: Sink>(office: &Office, job: &Job, sink: &mut K) -> Result<(), SinkFault>
     requires { job_standing office.now.state job.now ≡ Ok Complete }
-    ensures put { Puts K.contents K.faults sink.old sink.new (job_reply office.now.state job.now) result }
+    ensures put {
+        Puts K.contents K.faults sink.old sink.new (job_reply office.now.state job.now) result
+    }
 {
     put_all(sink, done_line(&job_done(office, job)).bytes())?;
     match job {
@@ -288,7 +285,9 @@ fn put_sized_errors<K: Sink>(
     sink: &mut K,
 ) -> Result<(), SinkFault>
     requires { length codes.now ≡ file.now.count }
-    ensures put { Puts K.contents K.faults sink.old sink.new (sized (error_file file.now codes.now)) result }
+    ensures put {
+        Puts K.contents K.faults sink.old sink.new (sized (error_file file.now codes.now)) result
+    }
 {
     put_all(sink, errors_line(errors_len(file, codes)).bytes())?;
     put_error_file(file, codes, sink)?;

@@ -23,8 +23,8 @@ pub enum Job {
     },
 }
 
-/// A carrier's file without a fault of its frame, what it told, and its digest. The frame is read and
-/// the digest is taken once.
+/// A carrier's file without a fault of its frame, what it told, and its digest. The frame is read
+/// and the digest is taken once.
 #[derive(Drop)]
 pub struct FileJob {
     bytes: Vec<u8>,
@@ -42,7 +42,9 @@ impl Model for FileJob {
 
     ghost view = { λ j. j.bytes.items };
 
-    ghost invariant = { λ j. (frame_fault j.bytes.items ≡ None) × (j.frame ≡ frame_of (file_of j.bytes.items)) × (j.digest ≡ sha256 j.bytes.items) };
+    ghost invariant = { λ j. (frame_fault j.bytes.items ≡ None)
+        × (j.frame ≡ frame_of (file_of j.bytes.items))
+        × (j.digest ≡ sha256 j.bytes.items) };
 }
 
 impl FileJob {

@@ -9,10 +9,12 @@ ghost use Rattle.batch_desk.specs.declared.job.Job.{Job};
 ghost use Rattle.batch_desk.specs.Jobs.{IsJob, IsStillKept, job_standing, entries_left};
 ghost use Rattle.batch_desk.specs.JobReplies.{job_reply};
 
-/// A complete job stays complete as long as what was booked of it is kept, whatever is booked behind it:
-/// read again then, it has nothing left to be booked, and gets the same reply, byte for byte.
+/// A complete job stays complete as long as what was booked of it is kept, whatever is booked behind
+/// it: read again then, it has nothing left to be booked, and gets the same reply, byte for byte.
 pub fn complete_jobs_repeat()
-    ensures nothing { (limits : Limits) (history : List Entry) (job : Job) → job_standing (state limits history) job ≡ Ok Complete → entries_left (state limits history) job ≡ [] }
+    ensures nothing { (limits : Limits) (history : List Entry) (job : Job)
+        → job_standing (state limits history) job ≡ Ok Complete
+        → entries_left (state limits history) job ≡ [] }
     ensures complete { (limits : Limits) (history more : List Entry) (job : Job)
         → IsLegal limits (history ++ more)
         → job_standing (state limits history) job ≡ Ok Complete
@@ -33,5 +35,6 @@ pub fn jobs_can_be_completed()
         → IsLegal limits (history ++ entries_left (state limits history) job) }
     ensures complete { (limits : Limits) (history : List Entry) (job : Job) (standing : Standing)
         → IsJob job → IsLegal limits history → job_standing (state limits history) job ≡ Ok standing
-        → job_standing (state limits (history ++ entries_left (state limits history) job)) job ≡ Ok Complete }
+        → let booked = history ++ entries_left (state limits history) job in
+        job_standing (state limits booked) job ≡ Ok Complete }
 {}

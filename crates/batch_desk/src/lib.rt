@@ -1,5 +1,5 @@
-//! Jobs: a carrier's file or an editor's edit that was read, its entries one after the other, and the
-//! reply when all are booked.
+//! Jobs: a carrier's file or an editor's edit that was read, its entries one after the other, and
+//! the reply when all are booked.
 #![tactic(auto)]
 
 mod desk;

@@ -4,7 +4,7 @@ ghost use Rattle.sha2.specs.Sha256.{sha256};
 ghost use Rattle.batch_frame.specs.FrameFault.{frame_fault, file_of};
 ghost use Rattle.batch_frame.specs.Told.{frame_of};
 ghost use Rattle.batch_desk.specs.FileJobs.{file_standing};
-ghost use Rattle.batch_desk.specs.SubmitFaults.{IsSubmitFault, IsEditFault};
+ghost use Rattle.batch_desk.specs.SubmitFaults.{IsJobOf, IsSubmitFault, IsEditFault};
 ghost use Rattle.batch_desk.specs.EditJobs.{edit_standing};
 
 use crate::desk::view_standing;
@@ -25,8 +25,8 @@ pub enum SubmitFault {
     Due(DueFault),
 }
 
-/// Makes a job of a carrier's file whose cycle may be opened, is open or is complete. Takes no memory
-/// and changes nothing.
+/// Makes a job of a carrier's file whose cycle may be opened, is open or is complete. Takes no
+/// memory and changes nothing.
 ///
 /// # Errors
 ///
@@ -34,7 +34,7 @@ pub enum SubmitFault {
 /// standing; the bytes are given back.
 pub fn submit_file(office: &Office, bytes: Vec<u8>) -> Result<Job, (Vec<u8>, SubmitFault)>
     ensures { MatchResult result
-        (λ job. (job ≡ Job.File bytes.items) × (frame_fault bytes.items ≡ None) × IsOk (file_standing office.now.state bytes.items))
+        (λ job. IsJobOf office.now.state bytes.items job)
         (λ refused. (refused.0 ≡ bytes) × IsSubmitFault office.now.state bytes.items refused.1) }
 {
     match judge_file(office, &bytes) {
@@ -46,15 +46,15 @@ pub fn submit_file(office: &Office, bytes: Vec<u8>) -> Result<Job, (Vec<u8>, Sub
     }
 }
 
-/// Makes a job of a carrier's file that is lent, as `submit_file` does of one that is given. A copy is
-/// taken of a file that becomes a job, and of no other.
+/// Makes a job of a carrier's file that is lent, as `submit_file` does of one that is given. A copy
+/// is taken of a file that becomes a job, and of no other.
 pub fn submit_lent(
     alloc: Global,
     office: &Office,
     content: &[u8],
 ) -> Result<Result<Job, SubmitFault>, NoMemory>
     ensures { IfOk result (λ told. MatchResult told
-        (λ job. (job ≡ Job.File content.now) × (frame_fault content.now ≡ None) × IsOk (file_standing office.now.state content.now))
+        (λ job. IsJobOf office.now.state content.now job)
         (λ fault. IsSubmitFault office.now.state content.now fault)) }
 {
     let judged = match judge_file(office, content) {
@@ -69,8 +69,8 @@ pub fn submit_lent(
     ))))
 }
 
-/// Makes a job of an editor's edit that may be booked next or is complete. Takes no memory and changes
-/// nothing.
+/// Makes a job of an editor's edit that may be booked next or is complete. Takes no memory and
+/// changes nothing.
 ///
 /// # Errors
 ///
@@ -82,7 +82,8 @@ pub fn submit_edit(
     edit: Edit,
 ) -> Result<Job, SubmitFault>
     ensures { MatchResult result
-        (λ job. (job ≡ Job.Edit editor serial edit) × IsOk (edit_standing office.now.state editor serial edit))
+        (λ job. (job ≡ Job.Edit editor serial edit)
+            × IsOk (edit_standing office.now.state editor serial edit))
         (λ fault. IsEditFault (edit_standing office.now.state editor serial edit) fault) }
 {
     match office.edit_standing(editor, serial, &edit.digest()) {
@@ -106,7 +107,10 @@ struct JudgedFile {
 #[tactic(auto, unfolding(crate::specs::FileJobs::file_standing))]
 fn judge_file(office: &Office, bytes: &[u8]) -> Result<JudgedFile, SubmitFault>
     ensures { MatchResult result
-        (λ judged. (judged.frame ≡ frame_of (file_of bytes.now)) × (judged.digest ≡ sha256 bytes.now) × (frame_fault bytes.now ≡ None) × IsOk (file_standing office.now.state bytes.now))
+        (λ judged. (judged.frame ≡ frame_of (file_of bytes.now))
+            × (judged.digest ≡ sha256 bytes.now)
+            × (frame_fault bytes.now ≡ None)
+            × IsOk (file_standing office.now.state bytes.now))
         (λ fault. IsSubmitFault office.now.state bytes.now fault) }
 {
     let file = match read_file(bytes) {

@@ -18,38 +18,46 @@ ghost use Rattle.command_machine.specs.CommandRows.{reply, after, after_all};
 
 /// What is read as the line of a command is what is spelled, and what is spelled so is read.
 pub fn command_lines_are_read_as_spelled()
-    ensures { (text : List ℕ) (line : CommandLine) → (line_of text ≡ Some line) ↔ SpellsLine text line }
+    ensures {
+        (text : List ℕ) (line : CommandLine) → (line_of text ≡ Some line) ↔ SpellsLine text line
+    }
 {}
 
 /// A row gives one reply and one event, or none: those that its reading from the front finds.
 pub fn rows_are_read_one_way()
-    ensures { (row : Row Reply Event) (reply : Reply) (event : Option Event) → Gives row reply event ↔ ((reply ≡ reply_in row) × (event ≡ event_in row)) }
+    ensures { (row : Row Reply Event) (reply : Reply) (event : Option Event)
+        → Gives row reply event ↔ ((reply ≡ reply_in row) × (event ≡ event_in row)) }
 {}
 
 /// The booked history is legal after any commands: each entry could be booked in the state of those
-/// before it. So no cycle is opened twice, no line is booked twice, and no serial of an editor is used
-/// twice; and guide and table are sound together.
+/// before it. So no cycle is opened twice, no line is booked twice, and no serial of an editor is
+/// used twice; and guide and table are sound together.
 pub fn histories_are_legal()
-    ensures legal { (commands : List Command) → All IsCommand commands → IsLegal office_limits (after_all start commands).history }
-    ensures once { (commands : List Command) → All IsCommand commands → AllPairs (λ e f. Repeats e f → ⊥) (after_all start commands).history }
-    ensures sound { (commands : List Command) → All IsCommand commands → let s = state_of (after_all start commands) in AreSound s.guide s.table }
+    ensures legal { (commands : List Command) → All IsCommand commands
+        → IsLegal office_limits (after_all start commands).history }
+    ensures once { (commands : List Command) → All IsCommand commands
+        → AllPairs (λ e f. Repeats e f → ⊥) (after_all start commands).history }
+    ensures sound { (commands : List Command) → All IsCommand commands
+        → let s = state_of (after_all start commands) in AreSound s.guide s.table }
 {}
 
 /// The booked history only grows: what was booked stays, in its place.
 pub fn history_only_grows()
-    ensures { (m : Machine) (commands : List Command) → (booked : List Entry) × ((after_all m commands).history ≡ m.history ++ booked) }
+    ensures { (m : Machine) (commands : List Command)
+        → (booked : List Entry) × ((after_all m commands).history ≡ m.history ++ booked) }
 {}
 
-/// `BATCH` completes the job that was read. Whatever commands come then, where the same job is read again
-/// while the cycle of its file is kept, or while its edit is its editor's last, `BATCH` gets the same
-/// reply, byte for byte, and books nothing.
+/// `BATCH` completes the job that was read. Whatever commands come then, where the same job is read
+/// again while the cycle of its file is kept, or while its edit is its editor's last, `BATCH` gets
+/// the same reply, byte for byte, and books nothing.
 pub fn repeated_jobs_get_the_same_reply()
     ensures { (commands more : List Command) (job : Job) (standing : Standing)
         → All IsCommand commands → All IsCommand more
         → let m = after_all start commands in let n = after_all (after m Batch) more in
         m.job ≡ Some job → job_standing (state_of m) job ≡ Ok standing
         → n.job ≡ Some job → IsStillKept (state_of n) job
-        → (reply_text (reply n Batch) ≡ reply_text (reply m Batch)) × ((after n Batch).history ≡ n.history) }
+        → (reply_text (reply n Batch) ≡ reply_text (reply m Batch))
+        × ((after n Batch).history ≡ n.history) }
 {}
 
 /// All entries of a job that is read can be booked: after `BATCH` it is complete.

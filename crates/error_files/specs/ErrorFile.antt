@@ -18,6 +18,10 @@ refused_records (bytes ∷ rest) [] = []
 refused_records (bytes ∷ rest) (code ∷ codes) =
     if code == 0 then refused_records rest codes else refused_record bytes code ∷ refused_records rest codes
 
+-- those of a file
+abbrev pub refused_in : CarrierFile → List ℕ → List (List ℕ)
+refused_in file codes = refused_records file.records codes
+
 -- a trailer as sent, with nine digits of this count in columns 15 to 23
 abbrev pub counted_trailer : List ℕ → ℕ → List ℕ
 counted_trailer bytes count = overwritten bytes 15 23 (zero_padded 9 count)
@@ -25,5 +29,5 @@ counted_trailer bytes count = overwritten bytes 15 23 (zero_padded 9 count)
 -- the header, the refused records, and the trailer with their number; each is followed by the file's separator
 abbrev pub error_file : CarrierFile → List ℕ → List ℕ
 error_file file codes =
-    let refused = refused_records file.records codes in
+    let refused = refused_in file codes in
     separated file.separator (all_records file.header refused (counted_trailer file.trailer (length refused)))

@@ -4,7 +4,7 @@
 mod parts;
 mod writing;
 
-pub use writing::{ErrorsEnd, errors_len, put_error_file, write_errors};
+pub use writing::{ErrorsEnd, count_refused, errors_len, put_error_file, write_errors};
 
 #[cfg(test)]
 mod tests;

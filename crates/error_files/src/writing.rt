@@ -1,8 +1,9 @@
 //! Writing an error file.
 ghost use Rattle.std.specs.Prelude.{◌≡◌, ◌==◌, ◌≤◌, not, count_by, length, IfOk};
 ghost use Rattle.ali_base.specs.WholePuts.{Puts};
+ghost use Rattle.batch_frame.specs.declared.fault.TheConstants.{MOST_RECORDS};
 ghost use Rattle.batch_frame.specs.CarrierFile.{separated};
-ghost use Rattle.error_files.specs.ErrorFile.{error_file, refused_records};
+ghost use Rattle.error_files.specs.ErrorFile.{error_file, refused_in};
 ghost use Rattle.error_files.specs.TextPuts.{PutsText};
 
 use crate::parts::{counted_trailer, put_record, refused_record};
@@ -21,7 +22,9 @@ pub enum ErrorsEnd {
 /// Puts the error file of a file whose records have these codes. Takes no memory.
 pub fn write_errors<K: Sink>(file: &FileView<'_>, codes: &[u16], sink: &mut K) -> ErrorsEnd
     requires { length codes.now ≡ file.now.count }
-    ensures put { PutsText K.contents K.faults sink.old sink.new (error_file file.now codes.now) result }
+    ensures put {
+        PutsText K.contents K.faults sink.old sink.new (error_file file.now codes.now) result
+    }
 {
     match put_error_file(file, codes, sink) {
         Ok(()) => ErrorsEnd::Done,
@@ -29,15 +32,17 @@ pub fn write_errors<K: Sink>(file: &FileView<'_>, codes: &[u16], sink: &mut K) -
     }
 }
 
-/// Puts the error file of a file whose records have these codes: its header, the refused records and
-/// its trailer. Takes no memory.
+/// Puts the error file of a file whose records have these codes: its header, the refused records
+/// and its trailer. Takes no memory.
 pub fn put_error_file<K: Sink>(
     file: &FileView<'_>,
     codes: &[u16],
     sink: &mut K,
 ) -> Result<(), SinkFault>
     requires { length codes.now ≡ file.now.count }
-    ensures put { Puts K.contents K.faults sink.old sink.new (error_file file.now codes.now) result }
+    ensures put {
+        Puts K.contents K.faults sink.old sink.new (error_file file.now codes.now) result
+    }
 {
     let separator = file.separator();
     put_record(sink, file.header(), separator)?;
@@ -49,8 +54,13 @@ pub fn put_error_file<K: Sink>(
 // Puts the refused records, and counts them.
 fn put_refused<K: Sink>(file: &FileView<'_>, codes: &[u16], sink: &mut K) -> Result<u32, SinkFault>
     requires { length codes.now ≡ file.now.count }
-    ensures count { IfOk result (λ n. (n ≡ length (refused_records file.now.records codes.now)) × (n ≤ 10_000)) }
-    ensures put { Puts K.contents K.faults sink.old sink.new (separated file.now.separator (refused_records file.now.records codes.now)) result }
+    ensures count {
+        IfOk result (λ n. (n ≡ length (refused_in file.now codes.now)) × (n ≤ MOST_RECORDS))
+    }
+    ensures put {
+        Puts K.contents K.faults sink.old sink.new
+            (separated file.now.separator (refused_in file.now codes.now)) result
+    }
 {
     let separator = file.separator();
     let mut refused = 0;
@@ -70,12 +80,14 @@ pub fn errors_len(file: &FileView<'_>, codes: &[u16]) -> usize
     requires { length codes.now ≡ file.now.count }
     ensures { result ≡ length (error_file file.now codes.now) }
 {
-    (count_refused(codes) + 2) * file.separator().piece_size()
+    let size = file.separator().piece_size();
+    (count_refused(codes) as usize + 2) * size
 }
 
-// How many codes are not 0.
-fn count_refused(codes: &[u16]) -> usize
+/// How many of these codes of a file are not 0.
+pub fn count_refused(codes: &[u16]) -> u32
+    requires { length codes.now ≤ MOST_RECORDS }
     ensures { result ≡ count_by (λ code. not (code == 0)) codes.now }
 {
-    codes.iter().filter(|code| **code != 0).count()
+    codes.iter().filter(|code| **code != 0).count() as u32
 }

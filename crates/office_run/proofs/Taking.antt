@@ -12,10 +12,10 @@ Rose-later : (before mid now : ℕ) → before ≤ mid → Rose mid now → Rose
 Rose-later before mid now h rose = omega arith
 
 -- why a piece was not taken is why the reading stops
-pub stops_after : (a b c : Option (List ℕ)) (bytes : List ℕ) (before mid now : ℕ) (fault : InputFault) → Consumes a b bytes → length bytes ≤ script_limit → before ≤ mid
-    → PieceStops b c bytes mid now fault → InputStops a c before now fault
-stops_after a b c bytes before mid now NoMemory taken within later h =
-    record { bytes = bytes ++ h.0; taken = Consumes-trans a b c bytes h.0 taken h.1; within = omega (arith, length-append bytes h.0, h.2) }
-stops_after a b c bytes before mid now Failed taken within later h =
-    (record { bytes = bytes; taken = Consumes-kept a b c bytes taken h.0; within = within }, Rose-later before mid now later h.1)
-stops_after a b c bytes before mid now TooLong taken within later h = absurd h
+pub stops_after : {S : Type 0} (left : S → Option (List ℕ)) (faults : S → ℕ) (a b c : S) (bytes : List ℕ) (fault : InputFault) → Consumes (left a) (left b) bytes → length bytes ≤ script_limit → faults a ≤ faults b
+    → PieceStops left faults b c bytes fault → InputStops left faults a c fault
+stops_after left faults a b c bytes NoMemory taken within later h =
+    record { bytes = bytes ++ h.0; taken = Consumes-trans (left a) (left b) (left c) bytes h.0 taken h.1; within = omega (arith, length-append bytes h.0, h.2) }
+stops_after left faults a b c bytes Failed taken within later h =
+    (record { bytes = bytes; taken = Consumes-kept (left a) (left b) (left c) bytes taken h.0; within = within }, Rose-later (faults a) (faults b) (faults c) later h.1)
+stops_after left faults a b c bytes TooLong taken within later h = absurd h

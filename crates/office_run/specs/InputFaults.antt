@@ -7,10 +7,10 @@ use Rattle.office_run.specs.declared.input.InputFault.{InputFault}
 use Rattle.office_run.specs.declared.input.InputFault.TheVariants.{NoMemory, Failed, TooLong}
 
 -- what was taken, and what shows the fault
-abbrev pub InputStops : Option (List ℕ) → Option (List ℕ) → ℕ → ℕ → InputFault → Type 0
-InputStops left left' before now NoMemory = TookSome left left'
-InputStops left left' before now Failed = TookPart left left' × Rose before now
-InputStops left left' before now TooLong = TookTooMany left left'
+abbrev pub InputStops : {S : Type 0} (left : S → Option (List ℕ)) (faults : S → ℕ) (old new : S) → InputFault → Type 0
+InputStops left faults old new NoMemory = TookSome (left old) (left new)
+InputStops left faults old new Failed = TookPart (left old) (left new) × Rose (faults old) (faults new)
+InputStops left faults old new TooLong = TookTooMany (left old) (left new)
 
 -- one piece more, within one byte past the limit, or the end
 abbrev pub TakesPiece : Option (List ℕ) → Option (List ℕ) → List ℕ → List ℕ → Bool → Type 0
@@ -18,8 +18,8 @@ TakesPiece left left' old new true = (piece : List ℕ) × Consumes left left' p
 TakesPiece left left' old new false = IsAtEnd left' × Keeps left left' × (new ≡ old)
 
 -- of a piece after these bytes; where there was no memory for it, it was taken within one byte past the limit
-abbrev pub PieceStops : Option (List ℕ) → Option (List ℕ) → List ℕ → ℕ → ℕ → InputFault → Type 0
-PieceStops left left' old before now NoMemory =
-    (piece : List ℕ) × Consumes left left' piece × (length old + length piece ≤ script_limit + 1)
-PieceStops left left' old before now Failed = Keeps left left' × Rose before now
-PieceStops left left' old before now TooLong = ⊥
+abbrev pub PieceStops : {S : Type 0} (left : S → Option (List ℕ)) (faults : S → ℕ) (old new : S) → List ℕ → InputFault → Type 0
+PieceStops left faults old new taken NoMemory =
+    (piece : List ℕ) × Consumes (left old) (left new) piece × (length taken + length piece ≤ script_limit + 1)
+PieceStops left faults old new taken Failed = Keeps (left old) (left new) × Rose (faults old) (faults new)
+PieceStops left faults old new taken TooLong = ⊥

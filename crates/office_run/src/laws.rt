@@ -6,13 +6,17 @@ ghost use Rattle.office_run.specs.ScriptReading.{command_at};
 
 /// What is read as the first command is what is spelled, and what is spelled so is read.
 pub fn commands_are_read_as_spelled()
-    ensures { (bytes : List ℕ) (command : Command) (rest : List ℕ) → (command_at bytes ≡ Some (command, rest)) ↔ BeginsWith bytes command rest }
+    ensures { (bytes : List ℕ) (command : Command) (rest : List ℕ)
+        → (command_at bytes ≡ Some (command, rest)) ↔ BeginsWith bytes command rest }
 {}
 
-/// A script is one list of commands; what is no script stops after one list of commands; and nothing
-/// is both.
+/// A script is one list of commands; what is no script stops after one list of commands; and
+/// nothing is both.
 pub fn scripts_have_one_reading()
-    ensures one_script { (bytes : List ℕ) (commands others : List Command) → IsScript bytes commands → IsScript bytes others → commands ≡ others }
-    ensures one_stop { (bytes : List ℕ) (commands others : List Command) → StopsAfter bytes commands → StopsAfter bytes others → commands ≡ others }
-    ensures not_both { (bytes : List ℕ) (commands others : List Command) → IsScript bytes commands → StopsAfter bytes others → ⊥ }
+    ensures one_script { (bytes : List ℕ) (commands others : List Command)
+        → IsScript bytes commands → IsScript bytes others → commands ≡ others }
+    ensures one_stop { (bytes : List ℕ) (commands others : List Command)
+        → StopsAfter bytes commands → StopsAfter bytes others → commands ≡ others }
+    ensures not_both { (bytes : List ℕ) (commands others : List Command)
+        → IsScript bytes commands → StopsAfter bytes others → ⊥ }
 {}

@@ -6,9 +6,7 @@ use Rattle.office_run.proofs.run.run.Goals as goal
 
 pub returns-in-Err-NoMemory-clause-exit : goal.returns-in-Err-NoMemory-clause-exit
 returns-in-Err-NoMemory-clause-exit g c =
-    let left = g.S.Source.left in
-    let faults = g.S.Source.faults in
     let held = g.K.Sink.contents c.args.sink.now in
-    let P : InputFault → Type 0 = λ fault. InputStops (left c.args.source.now) (left c.read_all.new.source) (faults c.args.source.now) (faults c.read_all.new.source) fault in
+    let P : InputFault → Type 0 = λ fault. InputStops g.S.Source.left g.S.Source.faults c.args.source.now c.read_all.new.source fault in
     let nothing : Keeps held held = search rules in
     inl (subst P c.in-Err-NoMemory.field-0-is c.in-Err-NoMemory.ensures.fault, nothing)
