@@ -1,0 +1,4 @@
+pub mod Words
+pub mod Prefixes
+pub mod Steps
+pub mod Seats

@@ -1,0 +1,3 @@
+pub mod FrontWord
+pub mod BoardRule
+pub mod Histories
