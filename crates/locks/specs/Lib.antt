@@ -1,0 +1,2 @@
+pub mod LockTelling
+pub mod SlotRule
