@@ -3,66 +3,27 @@ ghost use Rattle.std.specs.Prelude.{◌<◌, ◌≤◌, ◌+◌, length};
 use super::*;
 use ali_base::MemSink;
 use batch_frame::{FrameFault, Separator, read_file};
+use office_fixtures::{SentRecord, header, joined, put, trailer};
 use std::alloc::{AllocError, Global};
 use std::test::Fail;
 
-// Writes a text over the columns from `column` on, counted from 1.
-fn put(bytes: &mut [u8; 512], column: usize, text: &[u8])
-    requires { (1 ≤ column) × (column + length text.now ≤ 513) }
-{
-    bytes[column - 1..column - 1 + text.len()].copy_from_slice(text);
-}
-
-// A record to be inserted at MAIN ST, with the rest of its fields.
+// A record to be inserted at MAIN ST, with coordinates in its reserve.
 fn row(number: &[u8; 10], house: &[u8; 3]) -> [u8; 512] {
-    let mut row = [b' '; 512];
-    put(&mut row, 1, b"I");
-    put(&mut row, 2, number);
-    put(&mut row, 12, house);
-    put(&mut row, 28, b"MAIN");
-    put(&mut row, 88, b"ST");
-    put(&mut row, 94, b"DENVER");
-    put(&mut row, 126, b"CO");
-    put(&mut row, 188, b"JOHN SMITH");
-    put(&mut row, 220, b"10");
-    put(&mut row, 251, b"010224");
-    put(&mut row, 261, b"ABC01");
+    let mut row = SentRecord::new(b'I', number, house).bytes();
     put(&mut row, 276, b"39.7392 -104.9903");
-    put(&mut row, 512, b"*");
     row
-}
-
-// A header or a trailer.
-fn ends(name: &[u8; 3], tail: &[u8; 9]) -> [u8; 512] {
-    let mut ends = [b' '; 512];
-    put(&mut ends, 1, name);
-    put(&mut ends, 4, b"010224");
-    put(&mut ends, 10, b"ABC01");
-    put(&mut ends, 15, tail);
-    put(&mut ends, 512, b"*");
-    ends
-}
-
-// The records one after the other, each with the separator behind it.
-fn joined(alloc: Global, records: &[[u8; 512]], separator: &[u8]) -> Result<Vec<u8>, Fail> {
-    let mut bytes = Vec::new(alloc);
-    for record in records {
-        bytes.extend_from_slice(record)?;
-        bytes.extend_from_slice(separator)?;
-    }
-    Ok(bytes)
 }
 
 // The file of three records with CR LF: 2,570 bytes.
 fn three_records(alloc: Global) -> Result<Vec<u8>, Fail> {
     let records = [
-        ends(b"UHL", b"0000011  "),
+        header(b"ABC01", b"000001"),
         row(b"3035550100", b"100"),
         row(b"3035550102", b"102"),
         row(b"3035550104", b"104"),
-        ends(b"UTL", b"000000003"),
+        trailer(b"ABC01", b"000000003"),
     ];
-    joined(alloc, &records, b"\r\n")
+    Ok(joined(alloc, &records, b"\r\n")?)
 }
 
 // The fault, where there is one.
@@ -153,10 +114,10 @@ fn bytes_that_are_no_file(rt: HostRuntime) -> Result<(), Fail> {
     assert_eq!(rt; fault_of(&many), Some(FrameFault::TooMany(10_001)));
     let rows = [row(b"3035550100", b"100"), row(b"3035550101", b"101")];
     let records = [
-        ends(b"UHL", b"0000011  "),
+        header(b"ABC01", b"000001"),
         rows[0],
         rows[1],
-        ends(b"UTL", b"000000003"),
+        trailer(b"ABC01", b"000000003"),
     ];
     let file = joined(alloc, &records, b"")?;
     assert_eq!(rt;
@@ -186,15 +147,15 @@ fn written(alloc: Global, bytes: &[u8], codes: &[u16]) -> Result<Option<Vec<u8>>
 #[test]
 fn refused_records_go_back(rt: HostRuntime) -> Result<(), Fail> {
     let alloc = rt.alloc();
-    let head = ends(b"UHL", b"0000011  ");
+    let head = header(b"ABC01", b"000001");
     // All are accepted.
     let file = three_records(alloc)?;
-    let want = joined(alloc, &[head, ends(b"UTL", b"000000000")], b"\r\n")?;
+    let want = joined(alloc, &[head, trailer(b"ABC01", b"000000000")], b"\r\n")?;
     assert_eq!(rt; want.len(), 1028);
     assert_eq!(rt; written(alloc, &file, &[0, 0, 0])?, Some(want));
     // There are none.
-    let empty = joined(alloc, &[head, ends(b"UTL", b"000000000")], b"")?;
-    let want = joined(alloc, &[head, ends(b"UTL", b"000000000")], b"")?;
+    let empty = joined(alloc, &[head, trailer(b"ABC01", b"000000000")], b"")?;
+    let want = joined(alloc, &[head, trailer(b"ABC01", b"000000000")], b"")?;
     assert_eq!(rt; written(alloc, &empty, &[])?, Some(want));
     // The second is refused.
     let mut second = row(b"3035550101", b"101");
@@ -202,11 +163,11 @@ fn refused_records_go_back(rt: HostRuntime) -> Result<(), Fail> {
         head,
         row(b"3035550100", b"100"),
         second,
-        ends(b"UTL", b"000000002"),
+        trailer(b"ABC01", b"000000002"),
     ];
     let file = joined(alloc, &records, b"")?;
     put(&mut second, 509, b"203");
-    let want = joined(alloc, &[head, second, ends(b"UTL", b"000000001")], b"")?;
+    let want = joined(alloc, &[head, second, trailer(b"ABC01", b"000000001")], b"")?;
     assert_eq!(rt; want.len(), 1536);
     assert_eq!(rt; written(alloc, &file, &[0, 203])?, Some(want));
     Ok(())
@@ -215,12 +176,12 @@ fn refused_records_go_back(rt: HostRuntime) -> Result<(), Fail> {
 #[test]
 fn digits_and_separators_of_an_error_file(rt: HostRuntime) -> Result<(), Fail> {
     let alloc = rt.alloc();
-    let head = ends(b"UHL", b"0000011  ");
+    let head = header(b"ABC01", b"000001");
     let mut first = row(b"3035550100", b"100");
     let mut second = row(b"3035550101", b"101");
     let mut file = joined(
         alloc,
-        &[head, first, second, ends(b"UTL", b"000000002")],
+        &[head, first, second, trailer(b"ABC01", b"000000002")],
         b"\n",
     )?;
     // The last separator may be missing, and is written.
@@ -229,7 +190,7 @@ fn digits_and_separators_of_an_error_file(rt: HostRuntime) -> Result<(), Fail> {
     put(&mut second, 509, b"104");
     let want = joined(
         alloc,
-        &[head, first, second, ends(b"UTL", b"000000002")],
+        &[head, first, second, trailer(b"ABC01", b"000000002")],
         b"\n",
     )?;
     assert_eq!(rt; written(alloc, &file, &[7, 50_104])?, Some(want));
@@ -242,9 +203,9 @@ fn parts_are_lent(rt: HostRuntime) -> Result<(), Fail> {
     match read_file(&bytes) {
         Ok(file) => {
             assert_eq!(rt; file.count(), 3);
-            assert_eq!(rt; *file.header(), ends(b"UHL", b"0000011  "));
+            assert_eq!(rt; *file.header(), header(b"ABC01", b"000001"));
             assert_eq!(rt; *file.records(2), row(b"3035550102", b"102"));
-            assert_eq!(rt; *file.trailer(), ends(b"UTL", b"000000003"));
+            assert_eq!(rt; *file.trailer(), trailer(b"ABC01", b"000000003"));
             assert_eq!(rt; file.separator(), Separator::CrLf);
             assert_eq!(rt; file.company().text(), *b"ABC01");
             assert_eq!(rt; file.cycle().number(), 1);
