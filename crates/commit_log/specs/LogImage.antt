@@ -31,7 +31,7 @@ pub record StandsFor (is_body : ℕ → List ℕ → Bool) (head : List ℕ) (bo
   pub uncommitted : next ≢ committed
   pub lawful : AreBodies is_body (length head) 1 bodies
 
--- The image begins otherwise than with the head and a commit byte.
+-- The image begins otherwise than with the head and a commit byte: it is shorter than a block, or has another head.
 abbrev pub IsForeign : List ℕ → List ℕ → Type 0
 IsForeign head image = (next : ℕ) (rest : List ℕ) → image ≢ head ++ next ∷ rest
 

@@ -4,7 +4,7 @@ use Rattle.ali_base.specs.Faults.{Rose}
 use Rattle.crash_disk.specs.DiskState.{DiskState}
 use Rattle.commit_log.specs.LogImage.{AreBodies, IsForeign, IsDamaged, log_front, committed}
 use Rattle.commit_log.specs.LogState.{Keeps}
-use Rattle.commit_log.specs.declared.pieces.Behind.{Behind}
+use Rattle.commit_log.specs.declared.pieces.Block.{Block}
 use Rattle.commit_log.specs.declared.opening.OpenFault.{OpenFault}
 use Rattle.commit_log.specs.declared.opening.OpenFault.TheVariants.{DiskFault, Foreign, Damaged}
 
@@ -56,9 +56,9 @@ abbrev pub BeginsWith : List ℕ → ℕ → DiskState → Type 0
 BeginsWith head first s = (image : List ℕ) → s.content ≡ Some image → (rest : List ℕ) × (image ≡ head ++ first ∷ rest)
 
 -- what was read of the first block: another one, or its commit byte
-abbrev pub ReadsFirst : List ℕ → DiskState → Option Behind → Type 0
+abbrev pub ReadsFirst : List ℕ → DiskState → Option Block → Type 0
 ReadsFirst head s None = BeginsOtherwise head s
-ReadsFirst head s (Some behind) = BeginsWith head behind.next s
+ReadsFirst head s (Some block) = BeginsWith head block.next s
 
 -- what was read behind the first block: all frames, so many, or what stopped it
 abbrev pub ReadsFrames : (ℕ → List ℕ → Bool) → (List (List ℕ) → Type 0) → ℕ → ℕ → ℕ → DiskState → DiskState → Result ℕ OpenFault → Type 0

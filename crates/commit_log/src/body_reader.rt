@@ -21,7 +21,8 @@ pub trait BodyReader {
     fn read(&mut self, number: u32, bytes: &[u8]) -> bool
         requires { 1 ≤ room self.old }
         ensures answer { result ≡ is_body number bytes.now }
-        ensures held { (bodies : List (List ℕ)) → holds self.old bodies → result ≡ true → holds self.new (with_body bodies bytes.now) }
+        ensures held { (bodies : List (List ℕ)) → holds self.old bodies → result ≡ true
+            → holds self.new (with_body bodies bytes.now) }
         ensures room { room self.old ≤ room self.new + 1 }
         ensures capacity { capacity self.new ≡ capacity self.old };
 }

@@ -23,9 +23,11 @@ pub enum FormatFault {
 /// and room for the commit byte behind it.
 pub fn format<D: Disk, R: BodyReader>(disk: &mut D, block: &mut [u8]) -> Result<(), FormatFault>
     requires { 1 ≤ length block.old }
-    ensures answer { FormatAnswers R.is_body (body_of block.old) (D.state disk.old) (D.state disk.new) result }
+    ensures answer { FormatAnswers R.is_body (body_of block.old)
+        (D.state disk.old) (D.state disk.new) result }
     // A crash at any moment leaves the old bytes, torn in the first block.
-    ensures moments { (f : List ℕ) → IsSynced (D.state disk.old) f → EachMoment (D.state disk.old) (D.state disk.new) (Torn 0 (length block.old) f) }
+    ensures moments { (f : List ℕ) → IsSynced (D.state disk.old) f
+        → EachMoment (D.state disk.old) (D.state disk.new) (Torn 0 (length block.old) f) }
     ensures faults { (D.state disk.old).faults ≤ (D.state disk.new).faults }
 {
     match disk.len() {

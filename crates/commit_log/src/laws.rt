@@ -1,6 +1,7 @@
 //! Laws on images.
 ghost use Rattle.std.specs.Prelude.{◌≡◌, ◌⊎◌, List, ℕ};
-ghost use Rattle.commit_log.specs.LogImage.{StandsFor, StandsForSome, IsForeign, IsDamaged, IsDamagedSomewhere};
+ghost use Rattle.commit_log.specs.LogImage.{StandsFor, StandsForSome};
+ghost use Rattle.commit_log.specs.LogImage.{IsForeign, IsDamaged, IsDamagedSomewhere};
 
 use crate::body_reader::BodyReader;
 
@@ -14,7 +15,8 @@ pub fn bodies_are_known_from_the_image<R: BodyReader>()
 /// the limit.
 pub fn an_image_is_read_one_way<R: BodyReader>()
     ensures some { (head image : List ℕ) (limit : ℕ) →
-        IsForeign head image ⊎ IsDamagedSomewhere R.is_body head limit image ⊎ StandsForSome R.is_body head limit image }
+        IsForeign head image ⊎ IsDamagedSomewhere R.is_body head limit image
+        ⊎ StandsForSome R.is_body head limit image }
     ensures not_foreign { (head image : List ℕ) (bodies : List (List ℕ)) →
         StandsFor R.is_body head bodies image → IsForeign head image → ⊥ }
     ensures not_both { (head image : List ℕ) (limit : ℕ) →

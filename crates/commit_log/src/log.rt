@@ -43,12 +43,14 @@ pub struct Log<D, R> {
 }
 
 impl<D: Disk + Drop, R: BodyReader> Log<D, R> {
-    ghost use Rattle.commit_log.specs.OpenLog.{OpenAnswers, ReopenAnswers, AppendAnswers, CutAnswers, ReadAnswers};
+    ghost use Rattle.commit_log.specs.OpenLog.{OpenAnswers, ReopenAnswers};
+    ghost use Rattle.commit_log.specs.OpenLog.{AppendAnswers, CutAnswers, ReadAnswers};
     ghost use Rattle.commit_log.specs.OpenLog.{Becomes, CrashesBetween, IsUntouched, IsFixed};
     ghost use Rattle.commit_log.specs.OpenLog.{disk_of, body_len_of, limit_of, count_of, is_usable};
 
     /// Opens the log on a disk that begins with the head and a commit byte, of at most `limit`
-    /// frames. It reads through the buffer, and the reader reads each body. It changes no byte.
+    /// frames. It changes no byte. It reads through the buffer, in few calls where that has room for
+    /// many blocks, and the reader reads each body.
     pub fn open(
         disk: D,
         head: &[u8],
@@ -87,7 +89,8 @@ impl<D: Disk + Drop, R: BodyReader> Log<D, R> {
         requires head { length head.now ≡ body_len_of self.old }
         requires buffer { length head.now < length buffer.old }
         requires reader { (limit_of self.old ≤ R.room reader.old) × R.holds reader.old [] }
-        ensures answer { ReopenAnswers R.is_body D.state (R.holds reader.new) head.now self.old self.new result }
+        ensures answer { ReopenAnswers R.is_body D.state (R.holds reader.new) head.now
+            self.old self.new result }
         ensures usable { is_usable self.new ≡ is_ok result }
         ensures capacity { R.capacity reader.new ≡ R.capacity reader.old }
         ensures fixed { IsFixed D.state self.old self.new }
@@ -166,9 +169,11 @@ impl<D: Disk + Drop, R: BodyReader> Log<D, R> {
         requires usable { is_usable self.old ≡ true }
         requires length { length block.old ≡ body_len_of self.old + 1 }
         requires lawful { R.is_body (count_of self.old + 1) (body_of block.old) ≡ true }
-        ensures stored { Becomes R.is_body D.state (λ bodies. with_body bodies (body_of block.old)) self.old self.new result }
+        ensures stored { Becomes R.is_body D.state (λ bodies. with_body bodies (body_of block.old))
+            self.old self.new result }
         // A crash at any moment leaves the bodies from before, with the new one or without.
-        ensures moments { CrashesBetween R.is_body D.state (λ bodies. with_body bodies (body_of block.old)) self.old self.new }
+        ensures moments { CrashesBetween R.is_body D.state (λ bodies. with_body bodies (body_of block.old))
+            self.old self.new }
         ensures answer { AppendAnswers D.state self.old self.new result }
         ensures fixed { IsFixed D.state self.old self.new }
     {

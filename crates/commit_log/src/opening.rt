@@ -7,7 +7,7 @@ ghost use Rattle.commit_log.specs.Pieces.{Buffers, BuffersBehind};
 
 use crate::blocks::COMMITTED;
 use crate::body_reader::BodyReader;
-use crate::pieces::{Behind, Piece, read_frame, with_block};
+use crate::pieces::{Block, Piece, read_block, read_frame};
 use crash_disk::{Disk, Failed};
 
 /// Why a log was not opened.
@@ -34,7 +34,8 @@ pub fn read_log<D: Disk, R: BodyReader>(
     requires limit { limit + 1 < 2 ^ 32 }
     requires buffer { length head.now < length buffer.old }
     requires reader { (limit ≤ R.room reader.old) × R.holds reader.old [] }
-    ensures read { ReadsLog R.is_body (R.holds reader.new) head.now limit (D.state disk.old) (D.state disk.new) result }
+    ensures read { ReadsLog R.is_body (R.holds reader.new) head.now limit
+        (D.state disk.old) (D.state disk.new) result }
     ensures within { IfOk result (λ count. count ≤ limit) }
     ensures capacity { R.capacity reader.new ≡ R.capacity reader.old }
     ensures stays { Stays (D.state disk.old) (D.state disk.new) }
@@ -45,7 +46,7 @@ pub fn read_log<D: Disk, R: BodyReader>(
         Err(Failed) => return Err(OpenFault::DiskFault),
     }
     match first_commit(disk, head, buffer) {
-        Ok(Some(behind)) => read_frames(disk, head.len() as u32, limit, buffer, behind, reader),
+        Ok(Some(first)) => read_frames(disk, head.len() as u32, limit, buffer, first, reader),
         Ok(None) => Err(OpenFault::Foreign),
         Err(Failed) => Err(OpenFault::DiskFault),
     }
@@ -56,28 +57,21 @@ fn first_commit<D: Disk>(
     disk: &mut D,
     head: &[u8],
     buffer: &mut [u8],
-) -> Result<Option<Behind>, Failed>
+) -> Result<Option<Block>, Failed>
     requires buffer { length head.now < length buffer.old }
-    ensures buffers { IfOk result (BuffersBehind (D.state disk.new) (frame_place (length head.now) 1) buffer.new) }
+    ensures buffers { IfOk result
+        (BuffersBehind (D.state disk.new) (frame_place (length head.now) 1) buffer.new) }
     ensures first { IfOk result (ReadsFirst head.now (D.state disk.old)) }
     ensures stays { Stays (D.state disk.old) (D.state disk.new) }
     ensures cause { HasCause (D.state disk.old) (D.state disk.new) result }
 {
-    let piece = with_block(disk, buffer, Piece { at: 0, end: 0 }, 0, head.len() + 1)?;
-    if piece.len() <= head.len() {
-        return Ok(None);
+    match read_block(disk, buffer, Piece { at: 0, end: 0 }, 0, head.len())? {
+        Some(block) => {
+            let body = &buffer[block.at..block.at + head.len()];
+            Ok(is_same(body, head).then_some(block))
+        }
+        None => Ok(None),
     }
-    let end = piece.at + head.len();
-    if !is_same(&buffer[piece.at..end], head) {
-        return Ok(None);
-    }
-    Ok(Some(Behind {
-        piece: Piece {
-            at: end + 1,
-            end: piece.end,
-        },
-        next: buffer[end],
-    }))
 }
 
 fn is_same(a: &[u8], b: &[u8]) -> bool
@@ -92,20 +86,21 @@ fn read_frames<D: Disk, R: BodyReader>(
     body_len: u32,
     limit: u32,
     buffer: &mut [u8],
-    first: Behind,
+    first: Block,
     reader: &mut R,
 ) -> Result<u32, OpenFault>
     requires limit { limit + 1 < 2 ^ 32 }
     requires buffer { body_len < length buffer.old }
-    requires buffers { Buffers (D.state disk.old) (frame_place body_len 1) first.piece buffer.old }
+    requires buffers { Buffers (D.state disk.old) (frame_place body_len 1) first.behind buffer.old }
     requires reader { (limit ≤ R.room reader.old) × R.holds reader.old [] }
-    ensures read { ReadsFrames R.is_body (R.holds reader.new) body_len limit first.next (D.state disk.old) (D.state disk.new) result }
+    ensures read { ReadsFrames R.is_body (R.holds reader.new) body_len limit first.next
+        (D.state disk.old) (D.state disk.new) result }
     ensures within { IfOk result (λ count. count ≤ limit) }
     ensures capacity { R.capacity reader.new ≡ R.capacity reader.old }
     ensures stays { Stays (D.state disk.old) (D.state disk.new) }
     ensures faults { (D.state disk.old).faults ≤ (D.state disk.new).faults }
 {
-    let mut piece = first.piece;
+    let mut piece = first.behind;
     let mut next = first.next;
     let mut count = 0;
     while next == COMMITTED {
@@ -114,9 +109,9 @@ fn read_frames<D: Disk, R: BodyReader>(
             return Err(OpenFault::Damaged(number));
         }
         match read_frame(disk, buffer, piece, body_len, number, reader) {
-            Ok(Some(behind)) => {
-                piece = behind.piece;
-                next = behind.next;
+            Ok(Some(block)) => {
+                piece = block.behind;
+                next = block.next;
                 count = number;
             }
             Ok(None) => return Err(OpenFault::Damaged(number)),

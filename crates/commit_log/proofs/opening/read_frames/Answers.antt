@@ -31,7 +31,7 @@ loop-next-preserved g c =
       buffer = omega (arith, i.buffer, c.read_frame.auto.buffer);
       buffers = buffers;
       so_far = one_more g.R.BodyReader.is_body (g.R.BodyReader.holds c.loop-next.reader) (g.R.BodyReader.holds c.read_frame.new.reader) c.args.body_len c.args.first.next c.loop-next.count c.loop-next.next (g.D.Disk.state c.args.disk.now) (g.D.Disk.state c.read_frame.new.disk)
-          c.loop-next-test.true (c.in-Ok-Some.ensures.stays.content ∙ i.stays.content) i.so_far c.in-Ok-Some.behind.next frame;
+          c.loop-next-test.true (c.in-Ok-Some.ensures.stays.content ∙ i.stays.content) i.so_far c.in-Ok-Some.block.next frame;
     }
 
 pub returns-in-Ok-None-clause-read : goal.returns-in-Ok-None-clause-read
