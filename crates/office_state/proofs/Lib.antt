@@ -1,6 +1,7 @@
 pub mod Steps
 pub mod Histories
 pub mod Answers
+pub mod Dues
 pub mod Positions
 pub mod Standings
 pub mod KeptCodes
