@@ -3,12 +3,12 @@ use Rattle.std.proofs.Common.{Some, ◌≡◌, ◌⊎◌, ℕ, zero, suc, List, 
 use Rattle.std.proofs.Props.{props}
 use Rattle.std.proofs.lemmas.Bool.{and_parts, false≢true}
 use Rattle.std.proofs.lemmas.Bool.Decides.{nat_tests}
-use Rattle.std.specs.Prelude.{slice_index, ⊤, ◌==◌, ◌&&◌, false}
+use Rattle.std.specs.Prelude.{slice_index, ⊤, ◌==◌}
 use mathlib.Core.Option.{Option, none, some, some-ne-none, some-injective}
 use lib.ListN.{get_elem?}
-use Rattle.atomic_table.specs.Table.{State, Me, step, takes, keeps, gives, rest, put_back, Final, Allows, Enters, Arrives}
+use Rattle.atomic_table.specs.Table.{Me, step, takes, keeps, gives, rest, put_back, Final, Allows, Enters, Arrives}
 use Rattle.atomic_table.specs.Seated.{TableId}
-use Rattle.locks.specs.SlotRule.{Holds, took, gave, is_held, held_value}
+use Rattle.locks.specs.SlotRule.{Holds, took, gave, is_held}
 
 pub same_number : (a b : ℕ) → (a == b) ≡ true → a ≡ b
 same_number a b e = grind (arith, nat_tests)
@@ -34,7 +34,7 @@ module _ {T : Type 0} where
   -- a seat that has the slot has its value, and nothing else
   pub held_is : (held : List (ℕ × T)) → is_held held ≡ true → (x : T) × (held ≡ (0, x) ∷ [])
   held_is [] on = absurd (false≢true on)
-  held_is (y ∷ z ∷ more) on = absurd (let none_left = same_number (length (z ∷ more)) 0 (and_parts _ _ on).1 in omega (arith, none_left))
+  held_is (y ∷ z ∷ more) on = absurd (let none_left : suc (length more) ≡ 0 = same_number (suc (length more)) 0 (and_parts _ _ on).1 in omega (arith, none_left))
   held_is (y ∷ []) on = (y.1, ap (λ (k : ℕ). (k, y.1) ∷ []) (same_number y.0 0 (and_parts _ _ on).0))
 
   one_home : (homes : List (Option T)) (x : T) → length homes ≡ 1 → set homes 0 (some x) ≡ some x ∷ []
@@ -51,8 +51,8 @@ module _ {T : Type 0} (board_of : T → TableId) (board : TableId) where
   pub takes_it : (slots : ℕ) → Arrives (Holds board_of board) slots 0 (λ _. 0) (took board_of (step slots 0 0 0 none) (board, []))
   takes_it slots s holds homes below = ⊎_elim
       (λ (e : slice_index s.words 0 ≡ 1).
-          let there = holds e in
-          (board, takes 0 there.0, ap (λ (hs : List (Option T)). get_elem? hs 0) there.1, (λ one. absurd (not_one s.words one)), (λ _. (there.0, refl, there.2))))
+      let there = holds e in
+      (board, takes 0 there.0, ap (λ (hs : List (Option T)). get_elem? hs 0) there.1, (λ one. absurd (not_one s.words one)), (λ _. (there.0, refl, there.2))))
       (λ (no : slice_index s.words 0 ≡ 1 → ⊥). (board, keeps, tt, (λ one. absurd (not_one s.words one)), (λ e. absurd (no e))))
       (one_or_not (slice_index s.words 0))
 

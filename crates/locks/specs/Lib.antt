@@ -1,2 +1,3 @@
 pub mod LockTelling
 pub mod SlotRule
+pub mod SmallBookings

@@ -12,3 +12,8 @@ pub use guarded::{Guarded, GuardedTable, LeftEntered, SlotRule};
 pub use lock::{Lock, OfBoard};
 pub use own_lock::OwnLock;
 pub use shared_lock::SharedLock;
+
+#[cfg(test)]
+mod small_hall;
+#[cfg(test)]
+mod tests;

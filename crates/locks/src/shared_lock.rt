@@ -33,10 +33,7 @@ impl<T: OfBoard> Guarded<T> {
     }
 
     /// Waits until the value is there, and takes it.
-    fn take<'h, R: Wait>(
-        &'h self,
-        rt: &R,
-    ) -> (MutexGuard<'h, ()>, Seat<T, Board<T::Entries>>)
+    fn take<'h, R: Wait>(&'h self, rt: &R) -> (MutexGuard<'h, ()>, Seat<T, Board<T::Entries>>)
         ensures slot { result.1.table_id ≡ self.now.slot }
         ensures value { (x : T) × (result.1.me.1 ≡ (0, x) ∷ []) × (T.board x ≡ self.now.board) }
     {
@@ -80,10 +77,7 @@ impl<'h, T: OfBoard> Lock<T> for SharedLock<'h, T> {
 
     fn leave(&mut self) {
         let guarded = self.guarded;
-        guarded
-            .table
-            .shared
-            .store::<Giving>(&mut self.seat, 0, 1);
+        guarded.table.shared.store::<Giving>(&mut self.seat, 0, 1);
         self.guard = None;
     }
 

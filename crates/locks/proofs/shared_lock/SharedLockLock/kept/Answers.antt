@@ -1,4 +1,4 @@
-use Rattle.std.proofs.Common.{rules, ◌≡◌, ◌∷◌, refl, ap, sym, ◌∙◌}
+use Rattle.std.proofs.Common.{rules, ◌∷◌, refl, ap, sym, ◌∙◌}
 use Rattle.atomic_table.specs.Lent.{seat_with}
 use Rattle.atomic_table.specs.Table.{rest}
 use Rattle.locks.specs.SlotRule.{held_value}
