@@ -7,7 +7,7 @@ ghost use Rattle.board.specs.declared.front.TheConstants.{MOST_BOOKED};
 use crate::front::Front;
 use crate::named::{Booked, Named};
 use crate::pass::{Main, Pass};
-use crate::plays::{Booking, Comparing, Copying, Looking, Meeting, Noting, Opening, SettingBeside};
+use crate::plays::{Beside, Booking, Comparing, Copying, Looking, Meeting, Noting, Opening};
 use crate::view::BoardTable;
 use ali_base::{Duty, NoMemory};
 use atomic_table::Table;
@@ -152,9 +152,7 @@ impl<T: Booked> Board<T> {
             count: _,
             of: _,
         } = other;
-        self.table
-            .shared
-            .join_seat::<SettingBeside>(&mut seat, second);
+        self.table.shared.join_seat::<Beside>(&mut seat, second);
         let word = self.table.shared.load::<Comparing<T>>(&mut seat, 0);
         Pass {
             seat,
@@ -173,9 +171,7 @@ impl<T: Booked> Board<T> {
         ensures front { IsNoEarlier pass.old.front (front_under main.old.duty (length main.old.list)) }
     {
         let copy = self.table.shared.split_seat::<Copying>(&mut pass.seat);
-        self.table
-            .shared
-            .join_seat::<SettingBeside>(&mut main.seat, copy);
+        self.table.shared.join_seat::<Beside>(&mut main.seat, copy);
         self.table.shared.load::<Meeting>(&mut main.seat, 0);
     }
 }

@@ -81,9 +81,9 @@ impl<E> Split<View<E>> for Copying {
 }
 
 /// The other's list and front are set beside.
-pub struct SettingBeside;
+pub struct Beside;
 
-impl<E> Join<View<E>> for SettingBeside {
+impl<E> Join<View<E>> for Beside {
     ghost use Rattle.board.specs.BoardRule.{with_beside, spent_view};
 
     ghost both = { with_beside };

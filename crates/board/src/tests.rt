@@ -45,6 +45,7 @@ fn book_many(board: &Board<Numbers>, mut main: Main<Numbers>, many: u32) -> (Mai
     requires room { length main.list + many ≤ 1000000 }
     ensures board { result.0.board ≡ board.now }
     ensures length { length result.0.list ≡ length main.list + many }
+    ensures duty { result.0.duty ≡ main.duty }
 {
     let mut each_one_more = true;
     for _ in 0..many {

@@ -6,4 +6,4 @@ abbrev pub ghosts-book : goal.ghosts-book
 ghosts-book a = record { entries = length a.main.now.list ∷ [] }
 
 abbrev pub invariant-loop : goal.invariant-loop
-invariant-loop l = (l.main.board ≡ l.board) × (length l.main.list ≡ length l.initial.main.list + l.counter)
+invariant-loop l = (l.main.board ≡ l.board) × (l.main.duty ≡ l.initial.main.duty) × (length l.main.list ≡ length l.initial.main.list + l.counter)
