@@ -1,0 +1,3 @@
+pub mod DutiesOfBytes
+pub mod Registers
+pub mod Represented

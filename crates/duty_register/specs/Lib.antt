@@ -1,0 +1,6 @@
+pub mod DutyBytes
+pub mod DutyImage
+pub mod DutyState
+pub mod DutiesRead
+pub mod OpenRegister
+pub mod Formatting
