@@ -71,9 +71,8 @@ pub fn job_done(office: &Office, job: &Job) -> JobDone
 /// it.
 pub fn desk_reply<K: Sink>(office: &Office, job: &Job, sink: &mut K) -> ErrorsEnd
     requires { job_standing office.now.state job.now ≡ Ok Complete }
-    ensures put {
-        PutsText K.contents K.faults sink.old sink.new (job_reply office.now.state job.now) result
-    }
+    ensures put { PutsText K.contents K.faults sink.old sink.new
+        (job_reply office.now.state job.now) result }
 {
     match put_reply(office, job, sink) {
         Ok(()) => ErrorsEnd::Done,
@@ -222,9 +221,8 @@ fn read_of_file(office: &Office, job: &FileJob) -> FileRead
 
 // What is told of a complete edit.
 fn done_of_edit(office: &Office, editor: Editor, serial: Serial) -> EditDone
-    ensures {
-        JobDone.Edit result ≡ edit_done editor serial (last_edit editor office.now.state.edits)
-    }
+    ensures { JobDone.Edit result
+        ≡ edit_done editor serial (last_edit editor office.now.state.edits) }
 {
     let (code, detail) = match office.edit_kept(editor) {
         Some((_, verdict)) => (verdict.code, verdict.detail),
@@ -267,9 +265,8 @@ fn kept_codes<'a>(office: &'a Office, job: &FileJob) -> &'a [u16]
 #[tactic(auto, unfolding(crate::specs::JobReplies::job_reply))]
 pub fn put_reply<K: Sink>(office: &Office, job: &Job, sink: &mut K) -> Result<(), SinkFault>
     requires { job_standing office.now.state job.now ≡ Ok Complete }
-    ensures put {
-        Puts K.contents K.faults sink.old sink.new (job_reply office.now.state job.now) result
-    }
+    ensures put { Puts K.contents K.faults sink.old sink.new
+        (job_reply office.now.state job.now) result }
 {
     put_all(sink, done_line(&job_done(office, job)).bytes())?;
     match job {
@@ -285,9 +282,8 @@ fn put_sized_errors<K: Sink>(
     sink: &mut K,
 ) -> Result<(), SinkFault>
     requires { length codes.now ≡ file.now.count }
-    ensures put {
-        Puts K.contents K.faults sink.old sink.new (sized (error_file file.now codes.now)) result
-    }
+    ensures put { Puts K.contents K.faults sink.old sink.new
+        (sized (error_file file.now codes.now)) result }
 {
     put_all(sink, errors_line(errors_len(file, codes)).bytes())?;
     put_error_file(file, codes, sink)?;

@@ -9,8 +9,9 @@ ghost use Rattle.batch_desk.specs.declared.job.Job.{Job};
 ghost use Rattle.batch_desk.specs.Jobs.{IsJob, IsStillKept, job_standing, entries_left};
 ghost use Rattle.batch_desk.specs.JobReplies.{job_reply};
 
-/// A complete job stays complete as long as what was booked of it is kept, whatever is booked behind
-/// it: read again then, it has nothing left to be booked, and gets the same reply, byte for byte.
+/// A complete job stays complete as long as what was booked of it is kept, whatever is booked
+/// behind it: read again then, it has nothing left to be booked, and gets the same reply, byte for
+/// byte.
 pub fn complete_jobs_repeat()
     ensures nothing { (limits : Limits) (history : List Entry) (job : Job)
         → job_standing (state limits history) job ≡ Ok Complete

@@ -62,11 +62,7 @@ pub fn submit_lent(
         Err(fault) => return Ok(Err(fault)),
     };
     let bytes = content.to_vec(alloc)?;
-    Ok(Ok(Job::File(FileJob::of_file(
-        bytes,
-        judged.frame,
-        judged.digest,
-    ))))
+    Ok(Ok(Job::File(FileJob::of_file(bytes, judged.frame, judged.digest))))
 }
 
 /// Makes a job of an editor's edit that may be booked next or is complete. Takes no memory and
@@ -83,7 +79,7 @@ pub fn submit_edit(
 ) -> Result<Job, SubmitFault>
     ensures { MatchResult result
         (λ job. (job ≡ Job.Edit editor serial edit)
-            × IsOk (edit_standing office.now.state editor serial edit))
+        × IsOk (edit_standing office.now.state editor serial edit))
         (λ fault. IsEditFault (edit_standing office.now.state editor serial edit) fault) }
 {
     match office.edit_standing(editor, serial, &edit.digest()) {
@@ -108,9 +104,9 @@ struct JudgedFile {
 fn judge_file(office: &Office, bytes: &[u8]) -> Result<JudgedFile, SubmitFault>
     ensures { MatchResult result
         (λ judged. (judged.frame ≡ frame_of (file_of bytes.now))
-            × (judged.digest ≡ sha256 bytes.now)
-            × (frame_fault bytes.now ≡ None)
-            × IsOk (file_standing office.now.state bytes.now))
+        × (judged.digest ≡ sha256 bytes.now)
+        × (frame_fault bytes.now ≡ None)
+        × IsOk (file_standing office.now.state bytes.now))
         (λ fault. IsSubmitFault office.now.state bytes.now fault) }
 {
     let file = match read_file(bytes) {

@@ -10,11 +10,9 @@ use Rattle.ali_base.proofs.Steps.{bind_ok, some_is}
 use Rattle.text_line.specs.WordReading.{number_of, split_once}
 use Rattle.text_line.proofs.NumberTexts.{number_of-decimal, decimal-number_of}
 use Rattle.text_line.proofs.Splits.{Clear, Clear-append, split_again, split_none, split_is, decimal_clear}
-use Rattle.office_entry.specs.declared.edit.Edit.{Edit as GuideEdit}
 use Rattle.command_machine.specs.Commands.{file_limit, IsAsk}
-use Rattle.command_machine.specs.CommandText.{ask_text, file_text, edit_text, IsEditLine, SpellsLine}
-use Rattle.command_machine.specs.LineReading.{ask_of, file_of, edit_of, word_alone, by_word, line_in, line_of}
-use Rattle.command_machine.specs.declared.command.Ask.{Ask as AnyAsk}
+use Rattle.command_machine.specs.CommandText.{ask_text, file_text, IsEditLine, SpellsLine}
+use Rattle.command_machine.specs.LineReading.{file_of, edit_of, word_alone, by_word, line_in, line_of}
 use Rattle.command_machine.specs.declared.command_line.CommandLine.{CommandLine}
 use Rattle.command_machine.specs.declared.command_line.CommandLine.TheVariants.{Ask, File, Edit, Next, Batch}
 use Rattle.command_machine.proofs.AskTexts.{ask_words, ask_of-text, ask-ask_of, tn_clear, tn_of-number}

@@ -1,6 +1,5 @@
 -- A command at a desk that shows a machine.
-use Rattle.std.proofs.Common.{◌≡◌, List, ◌++◌, length, ap, ◌∙◌, subst}
-use Rattle.office_entry.specs.declared.entry.Entry.{Entry}
+use Rattle.std.proofs.Common.{◌≡◌, ◌++◌, length, ap, ◌∙◌, subst}
 use Rattle.office_state.specs.History.{Represents}
 use Rattle.command_machine.specs.declared.desk.Desk.{Desk}
 use Rattle.command_machine.specs.declared.reply.Reply.{Reply}

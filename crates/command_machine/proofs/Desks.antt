@@ -1,5 +1,5 @@
 -- Rows of a job, by its standing.
-use Rattle.std.proofs.Common.{◌≡◌, ◌⊎◌, inl, inr, ℕ, List, [], ◌∷◌, refl, ap, sym, ◌∙◌, subst, unwrap_or, Option, Some, None, Result, Ok, Err, IfOk, OnOk}
+use Rattle.std.proofs.Common.{◌≡◌, inl, inr, ℕ, List, [], ◌∷◌, refl, ap, sym, ◌∙◌, subst, unwrap_or, Option, Some, None, Result, Ok, Err, IfOk, OnOk}
 use Rattle.std.specs.List.{fold}
 use Rattle.batch_frame.specs.FrameFault.{frame_fault}
 use Rattle.sequence_once.specs.declared.standing.Standing.{Standing}
@@ -14,10 +14,10 @@ use Rattle.batch_desk.specs.declared.job.Job.TheVariants.{File, Edit}
 use Rattle.batch_desk.specs.Jobs.{job_standing, next_of, entries_left}
 use Rattle.batch_desk.specs.FileJobs.{file_standing, next_by}
 use Rattle.batch_desk.specs.EditJobs.{edit_standing, next_edit}
-use Rattle.batch_desk.specs.JobReplies.{read_of, done_of}
+use Rattle.batch_desk.specs.JobReplies.{read_of}
 use Rattle.command_machine.specs.declared.refusal.Refusal.{Refusal}
 use Rattle.command_machine.specs.declared.refusal.Refusal.TheVariants as refusal
-use Rattle.command_machine.specs.Rows.{Row, Unless, Always, Success, unless_refused, reply_in, event_in}
+use Rattle.command_machine.specs.Rows.{Row, Unless, unless_refused, reply_in, event_in}
 use Rattle.command_machine.specs.Refusals.{framing, standing_refusal}
 use Rattle.command_machine.specs.Replies.{Reply, Refused, Read, Finished}
 use Rattle.command_machine.specs.Machine.{Event, Reads, Books, entries_of, job_after}
@@ -141,4 +141,3 @@ readable_after first now later a b was is h = by_first first (subst (StaysReadab
     by_first : (first : Result Standing CycleFault) → StaysReadable first (Ok a) → StaysReadable first later
     by_first (Ok c) h = subst (StaysReadable (Ok c)) (sym is) tt
     by_first (Err fault) h = absurd h
-

@@ -1,7 +1,6 @@
 -- The machine of replies: its history is legal and only grows, its job is one, and what it may still book is bounded by the commands.
-use Rattle.std.proofs.Common.{◌≡◌, ℕ, suc, ◌+◌, ◌≤◌, List, [], ◌∷◌, ◌++◌, length, take, drop, Option, Some, None, Result, Ok, Err, append_assoc, append-nil, length-append, refl, ap, sym, ◌∙◌, subst, arith, All, IfSome, unwrap_or}
+use Rattle.std.proofs.Common.{◌≡◌, ℕ, suc, ◌+◌, ◌≤◌, List, [], ◌∷◌, ◌++◌, length, Option, Some, None, Result, Ok, Err, append_assoc, append-nil, length-append, refl, ap, sym, ◌∙◌, subst, arith, All, IfSome, unwrap_or}
 use Rattle.std.specs.List.{fold, AllByRecursion}
-use Rattle.std.proofs.lemmas.List.{take-append-drop}
 use Rattle.batch_frame.specs.FrameFault.{frame_fault}
 use Rattle.batch_frame.specs.declared.fault.FrameFault.{FrameFault}
 use Rattle.sequence_once.specs.declared.standing.Standing.{Standing}
@@ -24,7 +23,7 @@ use Rattle.batch_desk.specs.JobReplies.{job_reply}
 use Rattle.batch_desk.proofs.Steps.{ready, step, no_next, none_left, completed, few_framed}
 use Rattle.batch_desk.proofs.Replies.{complete_again}
 use Rattle.command_machine.specs.Commands.{Command, Ask, File, Edit, Next, Batch, IsCommand}
-use Rattle.command_machine.specs.Rows.{Row, Unless, Always, Success, unless_refused, reply_in, event_in}
+use Rattle.command_machine.specs.Rows.{unless_refused, reply_in, event_in}
 use Rattle.command_machine.specs.Refusals.{ahead, framing, standing_refusal}
 use Rattle.command_machine.specs.Replies.{Reply, Finished, reply_text}
 use Rattle.command_machine.specs.Machine.{Machine, start, office_limits, state_of, Event, Answers, Reads, Books, entries_of, after_event}
@@ -294,7 +293,7 @@ replies_again cs more job standing lawful lawful_then is stands is_then kept_the
     let again = repeated done more job (sound_after m Batch tt sound) lawful_then (completes_job m job standing sound is stands) kept_then in
     let nothing = complete_books_nothing n job is_then again.complete in (
       batch_text n job Complete is_then again.complete
-      ∙ ap (λ (history : List Entry). job_reply (state office_limits history) job) nothing
-      ∙ again.same ∙ sym (batch_text m job standing is stands),
+          ∙ ap (λ (history : List Entry). job_reply (state office_limits history) job) nothing
+          ∙ again.same ∙ sym (batch_text m job standing is stands),
       nothing,
     )

@@ -1,5 +1,5 @@
 -- A row gives what its reading finds.
-use Rattle.std.proofs.Common.{◌≡◌, ◌⊎◌, inl, inr, refl, ap, ◌∙◌, sym, unwrap_or, Option, Some, None}
+use Rattle.std.proofs.Common.{◌≡◌, inl, inr, refl, ap, ◌∙◌, sym, unwrap_or, Option, Some, None}
 use Rattle.command_machine.specs.Rows.{Row, Unless, Always, Success, Gives, unless_refused, reply_in, event_in}
 
 pub gives_read : {R E : Type 0} (row : Row R E) (reply : R) (event : Option E) → Gives row reply event → (reply ≡ reply_in row) × (event ≡ event_in row)

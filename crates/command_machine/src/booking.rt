@@ -41,14 +41,10 @@ fn book(office: &mut Office, entry: &Entry) -> Result<Verdict, NoMemory>
 /// Books the next entry of a job.
 pub(crate) fn next(office: &mut Office, job: &Job) -> Result<Reply, NoMemory>
     requires { office.old.entries < 4_000_000_000 }
-    ensures told {
-        IfOk result (λ r. reply_of office.new.state (Some job.now) r
-            ≡ reply_in (next_row office.old.state office.old.entries (Some job.now)))
-    }
-    ensures history {
-        let row = next_row office.old.state office.old.entries (Some job.now) in
-        OnOk result (KeepsHistory office.old office.new (entries_of (event_in row)))
-    }
+    ensures told { IfOk result (λ r. reply_of office.new.state (Some job.now) r
+        ≡ reply_in (next_row office.old.state office.old.entries (Some job.now))) }
+    ensures history { let row = next_row office.old.state office.old.entries (Some job.now) in
+        OnOk result (KeepsHistory office.old office.new (entries_of (event_in row))) }
     ensures can_tell { IfOk result (CanTell office.new.state (Some job.now)) }
 {
     let entry = match next_entry(office, job) {
@@ -65,10 +61,8 @@ pub(crate) fn next(office: &mut Office, job: &Job) -> Result<Reply, NoMemory>
 // The reply to `NEXT` where there is no next entry, by why there is none.
 fn none_next(office: &Office, job: &Job, fault: DueFault) -> Reply
     requires { next_of office.now.state job.now ≡ Err fault }
-    ensures told {
-        (count : ℕ) → reply_of office.now.state (Some job.now) result
-            ≡ reply_in (next_row office.now.state count (Some job.now))
-    }
+    ensures told { (count : ℕ) → reply_of office.now.state (Some job.now) result
+        ≡ reply_in (next_row office.now.state count (Some job.now)) }
     ensures none { (count : ℕ) → event_in (next_row office.now.state count (Some job.now)) ≡ None }
     ensures can_tell { CanTell office.now.state (Some job.now) result }
 {
@@ -81,14 +75,10 @@ fn none_next(office: &Office, job: &Job, fault: DueFault) -> Reply
 /// Books all entries that are left of a job.
 pub(crate) fn batch(office: &mut Office, job: &Job) -> Result<Reply, NoMemory>
     requires { office.old.entries + length (entries_left office.old.state job.now) < 4_000_000_000 }
-    ensures told {
-        IfOk result (λ r. reply_of office.new.state (Some job.now) r
-            ≡ reply_in (batch_row office.old.state (Some job.now)))
-    }
-    ensures history {
-        let row = batch_row office.old.state (Some job.now) in
-        OnOk result (KeepsHistory office.old office.new (entries_of (event_in row)))
-    }
+    ensures told { IfOk result (λ r. reply_of office.new.state (Some job.now) r
+        ≡ reply_in (batch_row office.old.state (Some job.now))) }
+    ensures history { let row = batch_row office.old.state (Some job.now) in
+        OnOk result (KeepsHistory office.old office.new (entries_of (event_in row))) }
     ensures can_tell { IfOk result (CanTell office.new.state (Some job.now)) }
 {
     match book_left(office, job)? {
@@ -101,17 +91,12 @@ pub(crate) fn batch(office: &mut Office, job: &Job) -> Result<Reply, NoMemory>
 fn book_left(office: &mut Office, job: &Job) -> Result<DueFault, NoMemory>
     requires { office.old.entries + length (entries_left office.old.state job.now) < 4_000_000_000 }
     ensures fault { IfOk result (λ fault. next_of office.new.state job.now ≡ Err fault) }
-    ensures readable {
-        let standing = job_standing office.old.state job.now in
-        OnOk result (StaysReadable standing (job_standing office.new.state job.now))
-    }
-    ensures state {
-        let entries = entries_left office.old.state job.now in
-        OnOk result (office.new.state ≡ fold after office.old.state entries)
-    }
-    ensures history {
-        OnOk result (KeepsHistory office.old office.new (entries_left office.old.state job.now))
-    }
+    ensures readable { let standing = job_standing office.old.state job.now in
+        OnOk result (StaysReadable standing (job_standing office.new.state job.now)) }
+    ensures state { let entries = entries_left office.old.state job.now in
+        OnOk result (office.new.state ≡ fold after office.old.state entries) }
+    ensures history { OnOk result
+        (KeepsHistory office.old office.new (entries_left office.old.state job.now)) }
 {
     loop {
         let entry = match next_entry(office, job) {
@@ -125,10 +110,8 @@ fn book_left(office: &mut Office, job: &Job) -> Result<DueFault, NoMemory>
 /// The refusal of a file that is no job.
 pub(crate) fn not_read(fault: SubmitFault) -> Refusal
     requires { (s : State) × (content : List ℕ) × IsSubmitFault s content fault }
-    ensures {
-        (s : State) (content : List ℕ)
-            → IsSubmitFault s content fault → IsFileRefusal s content result
-    }
+    ensures { (s : State) (content : List ℕ)
+        → IsSubmitFault s content fault → IsFileRefusal s content result }
 {
     match fault {
         SubmitFault::Frame(fault) => Refusal::Frame(fault),
@@ -139,10 +122,8 @@ pub(crate) fn not_read(fault: SubmitFault) -> Refusal
 /// The refusal of an edit that is no job.
 pub(crate) fn edit_refused(fault: SubmitFault) -> Refusal
     requires { (standing : Result AnyStanding AnyFault) × IsEditFault standing fault }
-    ensures {
-        (standing : Result AnyStanding AnyFault)
-            → IsEditFault standing fault → standing_refusal standing ≡ Some result
-    }
+    ensures { (standing : Result AnyStanding AnyFault)
+        → IsEditFault standing fault → standing_refusal standing ≡ Some result }
 {
     match fault {
         SubmitFault::Frame(_) => unreachable!(),

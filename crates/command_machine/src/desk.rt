@@ -16,9 +16,7 @@ use crate::command::{Ask, Command};
 use crate::refusal::{Refusal, numbers_line};
 use crate::reply::Reply;
 use ali_base::{Editor, NoMemory, Serial, Sink, SinkFault, put_all};
-use batch_desk::{
-    Job, done_line, job_read, put_reply, read_line, submit_edit, submit_lent,
-};
+use batch_desk::{Job, done_line, job_read, put_reply, read_line, submit_edit, submit_lent};
 use office_entry::Edit;
 use office_state::{Limits, Office};
 use retrieval::Form;
@@ -47,9 +45,8 @@ impl Desk {
     /// Carries a command out, and answers the reply. On want of memory a part of it may be done.
     pub fn carry_out(&mut self, alloc: Global, command: &Command<'_>) -> Result<Reply, NoMemory>
         requires { HasRoom self.old }
-        ensures {
-            IfOk result (CarriesOut self.old self.new (row_at self.old (command_of command.now)))
-        }
+        ensures { IfOk result
+            (CarriesOut self.old self.new (row_at self.old (command_of command.now))) }
     {
         match command {
             Command::Ask(ask) => Ok(self.answer(ask)),
@@ -66,11 +63,9 @@ impl Desk {
 
     // Answers a request.
     fn answer(&self, ask: &Ask) -> Reply
-        ensures {
-            let office = self.now.office in
+        ensures { let office = self.now.office in
             CarriesOut self.now self.now
-                (ask_row office.state office.entries ask.now.tn ask.now.since) result
-        }
+            (ask_row office.state office.entries ask.now.tn ask.now.since) result }
     {
         let count = self.office.entries();
         if count < ask.since {
@@ -87,11 +82,9 @@ impl Desk {
 
     // Reads a file, which becomes the job where it is not refused.
     fn read(&mut self, alloc: Global, content: &[u8]) -> Result<Reply, NoMemory>
-        ensures {
-            let frame = framing (frame_fault content.now) in
+        ensures { let frame = framing (frame_fault content.now) in
             IfOk result (CarriesOut self.old self.new
-                (read_row self.old.office.state frame (AnyJob.File content.now)))
-        }
+            (read_row self.old.office.state frame (AnyJob.File content.now))) }
     {
         match submit_lent(alloc, &self.office, content)? {
             Ok(job) => Ok(self.take(job)),
@@ -101,10 +94,8 @@ impl Desk {
 
     // Reads an edit, which becomes the job where it is not refused.
     fn read_edit(&mut self, editor: Editor, serial: Serial, edit: Edit) -> Reply
-        ensures {
-            CarriesOut self.old self.new
-                (read_row self.old.office.state None (AnyJob.Edit editor serial edit)) result
-        }
+        ensures { CarriesOut self.old self.new
+            (read_row self.old.office.state None (AnyJob.Edit editor serial edit)) result }
     {
         match submit_edit(&self.office, editor, serial, edit) {
             Ok(job) => self.take(job),
@@ -126,10 +117,8 @@ impl Desk {
     // Books the next entry of the job.
     fn book_next(&mut self) -> Result<Reply, NoMemory>
         requires { self.old.office.entries < 4_000_000_000 }
-        ensures {
-            IfOk result (CarriesOut self.old self.new
-                (next_row self.old.office.state self.old.office.entries self.old.job))
-        }
+        ensures { IfOk result (CarriesOut self.old self.new
+            (next_row self.old.office.state self.old.office.entries self.old.job)) }
     {
         match &self.job {
             Some(job) => next(&mut self.office, job),
@@ -140,10 +129,8 @@ impl Desk {
     // Books all entries that are left of the job.
     fn book_all(&mut self) -> Result<Reply, NoMemory>
         requires { HasRoom self.old }
-        ensures {
-            IfOk result (CarriesOut self.old self.new
-                (batch_row self.old.office.state self.old.job))
-        }
+        ensures { IfOk result (CarriesOut self.old self.new
+            (batch_row self.old.office.state self.old.job)) }
     {
         match &self.job {
             Some(job) => batch(&mut self.office, job),
@@ -155,10 +142,8 @@ impl Desk {
     #[tactic(auto, unfolding(crate::specs::Replies::reply_text))]
     pub fn put<K: Sink>(&self, reply: &Reply, sink: &mut K) -> Result<(), SinkFault>
         requires { CanTell self.now.office.state self.now.job reply.now }
-        ensures put {
-            Puts K.contents K.faults sink.old sink.new
-                (replies.reply_text (reply_of self.now.office.state self.now.job reply.now)) result
-        }
+        ensures put { Puts K.contents K.faults sink.old sink.new
+            (replies.reply_text (reply_of self.now.office.state self.now.job reply.now)) result }
     {
         put_all(sink, self.line(reply).bytes())?;
         self.put_block(reply, sink)
@@ -167,9 +152,8 @@ impl Desk {
     // The line of a reply, which a finished job has not.
     fn line(&self, reply: &Reply) -> Line
         requires { CanTell self.now.office.state self.now.job reply.now }
-        ensures {
-            result ≡ replies.reply_line (reply_of self.now.office.state self.now.job reply.now)
-        }
+        ensures { result
+            ≡ replies.reply_line (reply_of self.now.office.state self.now.job reply.now) }
     {
         match reply {
             Reply::Refused(refusal) => refusal.line(),
@@ -188,10 +172,8 @@ impl Desk {
     // Puts what follows the line.
     fn put_block<K: Sink>(&self, reply: &Reply, sink: &mut K) -> Result<(), SinkFault>
         requires { CanTell self.now.office.state self.now.job reply.now }
-        ensures put {
-            Puts K.contents K.faults sink.old sink.new
-                (replies.reply_block (reply_of self.now.office.state self.now.job reply.now)) result
-        }
+        ensures put { Puts K.contents K.faults sink.old sink.new
+            (replies.reply_block (reply_of self.now.office.state self.now.job reply.now)) result }
     {
         match (reply, &self.job) {
             (Reply::Finished, Some(job)) => put_reply(&self.office, job, sink),

@@ -18,9 +18,8 @@ ghost use Rattle.command_machine.specs.CommandRows.{reply, after, after_all};
 
 /// What is read as the line of a command is what is spelled, and what is spelled so is read.
 pub fn command_lines_are_read_as_spelled()
-    ensures {
-        (text : List ℕ) (line : CommandLine) → (line_of text ≡ Some line) ↔ SpellsLine text line
-    }
+    ensures { (text : List ℕ) (line : CommandLine)
+        → (line_of text ≡ Some line) ↔ SpellsLine text line }
 {}
 
 /// A row gives one reply and one event, or none: those that its reading from the front finds.

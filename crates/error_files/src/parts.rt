@@ -40,9 +40,8 @@ pub fn put_record<K: Sink>(
     bytes: &[u8; 512],
     separator: Separator,
 ) -> Result<(), SinkFault>
-    ensures put {
-        Puts K.contents K.faults sink.old sink.new (bytes.now ++ separator_bytes separator) result
-    }
+    ensures put { Puts K.contents K.faults sink.old sink.new
+        (bytes.now ++ separator_bytes separator) result }
 {
     let mut piece = [0; 514];
     let end = write_text(&mut piece, 0, bytes);

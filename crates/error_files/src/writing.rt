@@ -22,9 +22,8 @@ pub enum ErrorsEnd {
 /// Puts the error file of a file whose records have these codes. Takes no memory.
 pub fn write_errors<K: Sink>(file: &FileView<'_>, codes: &[u16], sink: &mut K) -> ErrorsEnd
     requires { length codes.now ≡ file.now.count }
-    ensures put {
-        PutsText K.contents K.faults sink.old sink.new (error_file file.now codes.now) result
-    }
+    ensures put { PutsText K.contents K.faults sink.old sink.new
+        (error_file file.now codes.now) result }
 {
     match put_error_file(file, codes, sink) {
         Ok(()) => ErrorsEnd::Done,
@@ -40,9 +39,8 @@ pub fn put_error_file<K: Sink>(
     sink: &mut K,
 ) -> Result<(), SinkFault>
     requires { length codes.now ≡ file.now.count }
-    ensures put {
-        Puts K.contents K.faults sink.old sink.new (error_file file.now codes.now) result
-    }
+    ensures put { Puts K.contents K.faults sink.old sink.new
+        (error_file file.now codes.now) result }
 {
     let separator = file.separator();
     put_record(sink, file.header(), separator)?;
@@ -54,13 +52,10 @@ pub fn put_error_file<K: Sink>(
 // Puts the refused records, and counts them.
 fn put_refused<K: Sink>(file: &FileView<'_>, codes: &[u16], sink: &mut K) -> Result<u32, SinkFault>
     requires { length codes.now ≡ file.now.count }
-    ensures count {
-        IfOk result (λ n. (n ≡ length (refused_in file.now codes.now)) × (n ≤ MOST_RECORDS))
-    }
-    ensures put {
-        Puts K.contents K.faults sink.old sink.new
-            (separated file.now.separator (refused_in file.now codes.now)) result
-    }
+    ensures count { IfOk result (λ n. (n ≡ length (refused_in file.now codes.now))
+        × (n ≤ MOST_RECORDS)) }
+    ensures put { Puts K.contents K.faults sink.old sink.new
+        (separated file.now.separator (refused_in file.now codes.now)) result }
 {
     let separator = file.separator();
     let mut refused = 0;

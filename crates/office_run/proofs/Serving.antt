@@ -7,8 +7,8 @@ use Rattle.office_run.specs.ScriptGrammar.{Reads}
 use Rattle.command_machine.specs.Commands.{Command}
 use Rattle.office_run.specs.ScriptReading.{command_at}
 use Rattle.command_machine.specs.Replies.{Reply as AnyReply, reply_text}
-use Rattle.command_machine.specs.Machine.{Machine, start}
-use Rattle.command_machine.specs.CommandRows.{reply, replies_text, after, after_all}
+use Rattle.command_machine.specs.Machine.{start}
+use Rattle.command_machine.specs.CommandRows.{reply, replies_text, after_all}
 use Rattle.command_machine.specs.MadeReply.{ShowsMachine, left_of, row_at, reply_of, CarriesOut}
 use Rattle.command_machine.specs.declared.desk.Desk.{Desk}
 use Rattle.command_machine.specs.declared.reply.Reply.{Reply}

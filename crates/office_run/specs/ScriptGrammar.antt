@@ -1,6 +1,5 @@
 -- The grammar of scripts: a list of commands, each by its text.
-use Rattle.std.specs.Prelude.{◌≡◌, ◌≢◌, ◌⊎◌, ℕ, ◌^◌, ◌<◌, ◌≤◌, List, [], ◌∷◌, ◌++◌, length, codes}
-use Rattle.std.specs.Fmt.{decimal}
+use Rattle.std.specs.Prelude.{◌≡◌, ◌≢◌, ◌⊎◌, ℕ, List, [], ◌∷◌, ◌++◌, length, codes}
 use Rattle.office_entry.specs.EditText.{IsEditText}
 use Rattle.command_machine.specs.Commands.{Command, Ask, File, Edit, Next, Batch, IsCommand}
 use Rattle.command_machine.specs.CommandText.{ask_text, file_text, edit_text}

@@ -21,9 +21,8 @@ pub(crate) fn first_command(bytes: &[u8]) -> Option<(Command<'_>, &[u8])>
 
 // The command of a first line, and what is left after it.
 fn command_of_line<'a>(rest: &'a [u8], line: &CommandLine) -> Option<(Command<'a>, &'a [u8])>
-    ensures command {
-        option_map (λ x. (command_of x.0, x.1.now)) result ≡ command_of_line rest.now line.now
-    }
+    ensures command { option_map (λ x. (command_of x.0, x.1.now)) result
+        ≡ command_of_line rest.now line.now }
     ensures no_longer { IfSome result (λ x. length x.1.now ≤ length rest.now) }
 {
     match line {

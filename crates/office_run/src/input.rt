@@ -24,9 +24,8 @@ pub(crate) enum InputFault {
 
 /// All that a source has left.
 pub(crate) fn read_all<S: Source>(alloc: Global, source: &mut S) -> Result<Vec<u8>, InputFault>
-    ensures all {
-        IfOk result (λ bytes. TookAll (S.left source.old) (S.left source.new) bytes.items)
-    }
+    ensures all { IfOk result (λ bytes.
+        TookAll (S.left source.old) (S.left source.new) bytes.items) }
     ensures fault { IfErr result (InputStops S.left S.faults source.old source.new) }
     ensures later { S.faults source.old ≤ S.faults source.new }
 {
@@ -47,13 +46,10 @@ pub(crate) fn read_all<S: Source>(alloc: Global, source: &mut S) -> Result<Vec<u
 // Takes one piece more, up to one byte past the limit, and says whether there was one.
 fn take_piece<S: Source>(source: &mut S, bytes: &mut Vec<u8>) -> Result<bool, InputFault>
     requires { length bytes.old.items ≤ script_limit }
-    ensures more {
-        IfOk result (TakesPiece (S.left source.old) (S.left source.new)
-            bytes.old.items bytes.new.items)
-    }
-    ensures fault {
-        IfErr result (PieceStops S.left S.faults source.old source.new bytes.old.items)
-    }
+    ensures more { IfOk result (TakesPiece (S.left source.old) (S.left source.new)
+        bytes.old.items bytes.new.items) }
+    ensures fault { IfErr result
+        (PieceStops S.left S.faults source.old source.new bytes.old.items) }
     ensures later { S.faults source.old ≤ S.faults source.new }
 {
     let mut piece = [0; PIECE];

@@ -30,24 +30,19 @@ pub fn office<S: Source, K: Sink>(
     ensures untouched { result ≡ Status.Usage → (source.new ≡ source.old) × (sink.new ≡ sink.old) }
 
     // What was taken and put is what the status says, over the replies of one machine.
-    ensures exit {
-        Exit (S.left source.old) (S.left source.new)
-            (K.contents sink.old) (K.contents sink.new) result
-    }
+    ensures exit { Exit (S.left source.old) (S.left source.new)
+        (K.contents sink.old) (K.contents sink.new) result }
 
     // A fault is answered only where it shows in the count of its object.
-    ensures source_fault {
-        result ≡ Status.SourceFault → Rose (S.faults source.old) (S.faults source.new)
-    }
+    ensures source_fault { result ≡ Status.SourceFault
+        → Rose (S.faults source.old) (S.faults source.new) }
     ensures sink_fault { result ≡ Status.SinkFault → Rose (K.faults sink.old) (K.faults sink.new) }
 
     // Where nothing fails, all of a script is done.
-    ensures complete {
-        is_run (texts words.now) ≡ true
-            → Completes (S.left source.old)
-                (Rose (S.faults source.old) (S.faults source.new))
-                (Rose (K.faults sink.old) (K.faults sink.new)) result
-    }
+    ensures complete { is_run (texts words.now) ≡ true
+        → Completes (S.left source.old)
+        (Rose (S.faults source.old) (S.faults source.new))
+        (Rose (K.faults sink.old) (K.faults sink.new)) result }
 {
     if !is_run(words) {
         return Status::Usage;
@@ -57,14 +52,11 @@ pub fn office<S: Source, K: Sink>(
 
 // Reads the source to its end, and runs what it held.
 fn run<S: Source, K: Sink>(alloc: Global, source: &mut S, sink: &mut K) -> Status
-    ensures exit {
-        Exit (S.left source.old) (S.left source.new)
-            (K.contents sink.old) (K.contents sink.new) result
-    }
+    ensures exit { Exit (S.left source.old) (S.left source.new)
+        (K.contents sink.old) (K.contents sink.new) result }
     ensures not_usage { result ≢ Status.Usage }
-    ensures source_fault {
-        result ≡ Status.SourceFault → Rose (S.faults source.old) (S.faults source.new)
-    }
+    ensures source_fault { result ≡ Status.SourceFault
+        → Rose (S.faults source.old) (S.faults source.new) }
     ensures sink_fault { result ≡ Status.SinkFault → Rose (K.faults sink.old) (K.faults sink.new) }
 {
     match read_all(alloc, source) {

@@ -6,3 +6,6 @@ mod forms;
 
 pub use answer::Form;
 pub use forms::form;
+
+#[cfg(test)]
+mod tests;

@@ -1,4 +1,4 @@
-use Rattle.std.proofs.Common.{◌∙◌, ◌++◌, List, Option, Some, sym, ap, subst}
+use Rattle.std.proofs.Common.{◌∙◌, ◌++◌, List, Option, sym, ap, subst}
 use Rattle.sequence_once.specs.declared.standing.CycleFault.{CycleFault}
 use Rattle.office_entry.specs.declared.entry.Entry.{Entry}
 use Rattle.office_state.specs.History.{Represents}

@@ -1,4 +1,4 @@
-use Rattle.std.proofs.Common.{◌++◌, List, Option, sym, subst}
+use Rattle.std.proofs.Common.{◌++◌, Option, sym, subst}
 use Rattle.office_state.specs.History.{Represents}
 use Rattle.batch_desk.proofs.Steps.{step}
 use Rattle.command_machine.specs.Machine.{Event, entries_of}

@@ -1,5 +1,5 @@
-use Rattle.std.proofs.Common.{◌≡◌, Option, sym, subst}
-use Rattle.command_machine.specs.Rows.{Gives, reply_in, event_in}
+use Rattle.std.proofs.Common.{Option, sym, subst}
+use Rattle.command_machine.specs.Rows.{Gives, reply_in}
 use Rattle.command_machine.specs.Replies.{Reply}
 use Rattle.command_machine.specs.Machine.{Event}
 use Rattle.command_machine.proofs.Rows.{gives_read, read_gives}
