@@ -1,5 +1,6 @@
 -- What an open register stands for, and what its calls answer.
 use Rattle.std.specs.Prelude.{◌≡◌, ℕ, ◌+◌, ◌<◌, ◌≤◌, Bool, true, false, List, Some, Result, Ok, Err, OnOk}
+use Rattle.ali_base.specs.Duties.{next_duty}
 use Rattle.ali_base.specs.Faults.{Rose}
 use Rattle.ali_base.specs.declared.duty.Duty.{Duty}
 use Rattle.ali_base.specs.declared.duty.Mode.{Mode}
@@ -46,21 +47,17 @@ pub record IsFixed {D : Type 0} (state : D → DiskState) (old new : Register D)
   pub last_epoch : last_epoch_of new ≡ last_epoch_of old
   pub faults : (state (disk_of old)).faults ≤ (state (disk_of new)).faults
 
--- the duty after one: its epoch and one, and the rest as told
-abbrev pub duty_after : Duty → NodeName → Mode → ℕ → Duty
-duty_after before holder mode floor = record { epoch = before.epoch + 1; holder = holder; mode = mode; floor = floor }
-
 -- a node takes the duty, and is then alone
 abbrev pub taken : Duty → NodeName → ℕ → Duty
-taken before holder floor = duty_after before holder Alone floor
+taken before holder floor = next_duty before holder Alone floor
 
 -- the holder goes on alone
 abbrev pub left_alone : Duty → ℕ → Duty
-left_alone before floor = duty_after before before.holder Alone floor
+left_alone before floor = next_duty before before.holder Alone floor
 
 -- both nodes are in step again
 abbrev pub paired : Duty → ℕ → Duty
-paired before floor = duty_after before before.holder Both floor
+paired before floor = next_duty before before.holder Both floor
 
 -- On success the register has its duties and this one.
 abbrev pub Becomes : {D : Type 0} → (D → DiskState) → Duty → Register D → Register D → Result Duty DutyFault → Type 0

@@ -30,7 +30,8 @@ pub struct Register<D> {
 
 impl<D: Disk + Drop> Register<D> {
     ghost use Rattle.duty_register.specs.OpenRegister.{OpenAnswers, ReopenAnswers, ChangeAnswers, Becomes, CrashesBetween, IsFixed};
-    ghost use Rattle.duty_register.specs.OpenRegister.{disk_of, duty_of, is_usable, duty_after, taken, left_alone, paired};
+    ghost use Rattle.ali_base.specs.Duties.{next_duty};
+    ghost use Rattle.duty_register.specs.OpenRegister.{disk_of, duty_of, is_usable, taken, left_alone, paired};
 
     /// Opens the register, whose duties have at most the last epoch. It syncs the disk, changes no
     /// byte, and takes no memory.
@@ -149,9 +150,9 @@ impl<D: Disk + Drop> Register<D> {
     // Adds the duty after the present one, in whatever mode that is.
     fn change(&mut self, holder: NodeName, mode: Mode, floor: u32) -> Result<Duty, DutyFault>
         requires usable { is_usable self.old ≡ true }
-        ensures stored { Becomes D.state (duty_after (duty_of self.old) holder mode floor) self.old self.new result }
-        ensures moments { CrashesBetween D.state (duty_after (duty_of self.old) holder mode floor) self.old self.new }
-        ensures answer { ChangeAnswers D.state (duty_of self.old).mode (duty_after (duty_of self.old) holder mode floor) self.old self.new result }
+        ensures stored { Becomes D.state (next_duty (duty_of self.old) holder mode floor) self.old self.new result }
+        ensures moments { CrashesBetween D.state (next_duty (duty_of self.old) holder mode floor) self.old self.new }
+        ensures answer { ChangeAnswers D.state (duty_of self.old).mode (next_duty (duty_of self.old) holder mode floor) self.old self.new result }
         ensures fixed { IsFixed D.state self.old self.new }
     {
         let duty = Duty {

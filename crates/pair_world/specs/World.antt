@@ -7,6 +7,7 @@ use Rattle.ali_base.specs.declared.duty.Mode.TheVariants.{Both, Alone}
 use Rattle.ali_base.specs.declared.duty.Duty.{Duty}
 use Rattle.pair_world.specs.Frames.{Frame}
 use Rattle.pair_world.specs.Deliveries.{NodeMessage, NodeAck}
+pub use Rattle.ali_base.specs.Duties.{first_duty}
 
 -- The other node.
 abbrev pub other : NodeName → NodeName
@@ -83,10 +84,6 @@ pub record Resolved (E : Type 0) : Type 0 where
   pub messages : List (Message E)  -- those sent, without those dropped
   pub acked : ℕ  -- the greatest number acknowledged in the present epoch
   pub ended : ℕ  -- the number of the greatest end acknowledged in the present epoch, 0 for none
-
--- The duty of formatted disks.
-abbrev pub first_duty : Duty
-first_duty = record { epoch = 1; holder = A; mode = Both; floor = 0 }
 
 -- The term of the present holder: the longest run of last duties with it, the newest first.
 abbrev pub term : Duty → List Duty → List Duty
