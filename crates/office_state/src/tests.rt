@@ -1,30 +1,19 @@
 //! Offices with small limits, against answers that were written down apart from them.
-ghost use Rattle.std.specs.Prelude.{◌+◌, ◌≤◌, length};
 
 use crate::{ApplyFault, DueFault, Limits, Office, Verdict};
 use ali_base::{Company, Cycle, Day, Editor, Serial, Tn};
 use office_entry::{Edit, Entry};
+use office_fixtures::{SentRecord, put};
 use sequence_once::{CycleFault, Standing};
 use std::test::Fail;
 
-// Writes a text over the columns from `column` on, counted from 1.
-fn put(bytes: &mut [u8; 512], column: usize, text: &[u8])
-    requires { (1 ≤ column) × (column + length text.now ≤ 513) }
-{
-    bytes[column - 1..column - 1 + text.len()].copy_from_slice(text);
-}
-
-// The record of a number at house 0 of MAIN that is to be inserted.
+// The record of a number at house 0 of MAIN ST that is to be inserted.
 fn record(number: &[u8; 10], company: &[u8; 5]) -> [u8; 512] {
-    let mut record = [b' '; 512];
-    put(&mut record, 1, b"I");
-    put(&mut record, 2, number);
-    put(&mut record, 28, b"MAIN");
-    put(&mut record, 220, b"10");
-    put(&mut record, 251, b"010224");
-    put(&mut record, 261, company);
-    put(&mut record, 512, b"*");
-    record
+    let sent = SentRecord {
+        company,
+        ..SentRecord::new(b'I', number, b"")
+    };
+    sent.bytes()
 }
 
 // The opening of a cycle of so many lines.
@@ -57,9 +46,9 @@ fn edit(serial: u32, text: &[u8]) -> Option<Entry> {
     })
 }
 
-// The edit that makes the numbers 0 to 98 of MAIN a range.
+// The edit that makes the even numbers 0 to 98 of MAIN ST a range.
 fn main_street() -> Option<Entry> {
-    edit(1, b"ADD |||MAIN|||0|98|E|101")
+    edit(1, b"ADD DENVER|CO||MAIN|ST||0|98|E|101")
 }
 
 // The company of the first kept cycle.
@@ -195,7 +184,10 @@ fn edits_out_of_turn(rt: HostRuntime) -> Result<(), Fail> {
 
 // The edits that make two ranges.
 fn two_streets() -> Option<[Entry; 2]> {
-    Some([main_street()?, edit(2, b"ADD |||OAK|||0|98|E|101")?])
+    Some([
+        main_street()?,
+        edit(2, b"ADD DENVER|CO||OAK|ST||0|98|E|101")?,
+    ])
 }
 
 // A range, and a cycle of two numbers in it.
