@@ -20,3 +20,6 @@ pub use journal::Journal;
 pub use laws::{
     an_image_is_read_one_way, bodies_are_read_as_written, frames_are_known_from_the_image,
 };
+
+#[cfg(test)]
+mod tests;

@@ -16,7 +16,7 @@ pub returns-clause-head : goal.returns-clause-head
 returns-clause-head c =
     let one = c.push.ensures.bytes ∙ ap (λ z. z ++ codes "ALI OFFICE JRNL1") c.new-block.ensures in
     let two : c.push-2.new.self ≡ codes "ALI OFFICE JRNL1" ++ node_text c.args.name =
-        c.push-2.ensures.bytes ∙ ap (λ z. z ++ c.text.result) one ∙ ap (λ l. codes "ALI OFFICE JRNL1" ++ l) c.text.ensures in
+    c.push-2.ensures.bytes ∙ ap (λ z. z ++ c.text.result) one ∙ ap (λ l. codes "ALI OFFICE JRNL1" ++ l) c.text.ensures in
     ap (take 639) (c.whole.ensures ∙ ap (zero_filled 640) two) ∙ front_of_block c.args.name
 
 pub returns-clause-body : goal.returns-clause-body

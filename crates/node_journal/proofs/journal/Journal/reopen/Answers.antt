@@ -40,8 +40,7 @@ returns-in-Err-clause-answer g c =
     let found = c.in-Err.ensures.answer in
     let before = state (log.disk_of old.log) in
     let after = state (log.disk_of c.reopen.new.self) in
-    let limit = log.limit_of old.log in
-    (
+    let limit = log.limit_of old.log in (
       record {
         stays = found.stays;
         faults = found.faults;
