@@ -4,6 +4,7 @@ use Rattle.std.specs.Prelude.{All}
 use Rattle.std.proofs.lemmas.List.{append-nil, length-append, take_at, drop_at, map-append, reverse-append}
 use Rattle.std.proofs.lemmas.List.Elements.{All-nil, All-cons, All-head, All-tail, All-take, All-drop}
 use Rattle.ali_base.proofs.FrontsAgain.{all_bytes}
+use Rattle.ali_base.specs.Fronts.{AreBytes}
 use Rattle.ali_base.specs.declared.duty.Duty.{Duty}
 use Rattle.commit_log.specs.LogImage.{AreBodies, committed, committed_frames}
 use Rattle.commit_log.specs.LogImage as log
@@ -12,7 +13,8 @@ use Rattle.crash_disk.specs.DiskState.{DiskState}
 use Rattle.crash_disk.specs.Moments.{EachMoment}
 use Rattle.crash_disk.proofs.Runs.{weaker}
 use Rattle.pair_world.specs.SoundWorld.{AreCounted}
-use Rattle.pair_world.specs.World.{duty_list, first_duty}
+use Rattle.ali_base.specs.Duties.{first_duty}
+use Rattle.pair_world.specs.World.{duty_list}
 use Rattle.duty_register.specs.DutyBytes.{IsDuty, body, is_body}
 use Rattle.duty_register.specs.DutyImage.{AreChanges, StandsFor, first_block}
 use Rattle.duty_register.specs.DutyState.{Keeps, StandsForEither}
@@ -84,41 +86,38 @@ newest duty past (c ∷ changes) counted rest =
 
 -- ---- bodies that were read are those of duties
 
-abbrev AllBytes : List ℕ → Type 0
-AllBytes bytes = All (λ byte. byte < 2 ^ 8) bytes
-
 -- duties with these bodies
 pub record Changes (epoch : ℕ) (bodies : List (List ℕ)) : Type 0 where
   pub changes : List Duty
   pub counted : AreChanges epoch changes
   pub bodies_are : bodies ≡ map body changes
 
-pub bodies_found : (n k : ℕ) (bodies : List (List ℕ)) → All AllBytes bodies → AreBodies is_body n k bodies → Changes k bodies
+pub bodies_found : (n k : ℕ) (bodies : List (List ℕ)) → All AreBytes bodies → AreBodies is_body n k bodies → Changes k bodies
 bodies_found n k [] bytes lawful = record { changes = []; counted = tt; bodies_are = refl }
 bodies_found n k (x ∷ bodies) bytes lawful =
-    let here = body_found k x (all_bytes x (All-head AllBytes x bodies bytes)) lawful.1 in
-    let rest = bodies_found n (suc k) bodies (All-tail AllBytes x bodies bytes) lawful.2 in
+    let here = body_found k x (all_bytes x (All-head AreBytes x bodies bytes)) lawful.1 in
+    let rest = bodies_found n (suc k) bodies (All-tail AreBytes x bodies bytes) lawful.2 in
     record {
       changes = here.0 ∷ rest.changes;
       counted = (here.1.lawful, omega (arith, here.1.counted), rest.counted);
       bodies_are = λ i. here.1.spelled i ∷ rest.bodies_are i;
     }
 
-left_bytes : (xs ys : List ℕ) → AllBytes (xs ++ ys) → AllBytes xs
-left_bytes xs ys h = subst AllBytes (take_at xs ys (length xs) refl) (All-take (λ byte. byte < 2 ^ 8) (length xs) (xs ++ ys) h)
+left_bytes : (xs ys : List ℕ) → AreBytes (xs ++ ys) → AreBytes xs
+left_bytes xs ys h = subst AreBytes (take_at xs ys (length xs) refl) (All-take (λ byte. byte < 2 ^ 8) (length xs) (xs ++ ys) h)
 
-right_bytes : (xs ys : List ℕ) → AllBytes (xs ++ ys) → AllBytes ys
-right_bytes xs ys h = subst AllBytes (drop_at xs ys (length xs) refl) (All-drop (λ byte. byte < 2 ^ 8) (length xs) (xs ++ ys) h)
+right_bytes : (xs ys : List ℕ) → AreBytes (xs ++ ys) → AreBytes ys
+right_bytes xs ys h = subst AreBytes (drop_at xs ys (length xs) refl) (All-drop (λ byte. byte < 2 ^ 8) (length xs) (xs ++ ys) h)
 
-frames_bytes : (bodies : List (List ℕ)) → AllBytes (committed_frames bodies) → All AllBytes bodies
-frames_bytes [] all = All-nil AllBytes
+frames_bytes : (bodies : List (List ℕ)) → AreBytes (committed_frames bodies) → All AreBytes bodies
+frames_bytes [] all = All-nil AreBytes
 frames_bytes (x ∷ bodies) all =
-    All-cons AllBytes x bodies (All-tail (λ byte. byte < 2 ^ 8) committed x (left_bytes (committed ∷ x) (committed_frames bodies) all)) (frames_bytes bodies (right_bytes (committed ∷ x) (committed_frames bodies) all))
+    All-cons AreBytes x bodies (All-tail (λ byte. byte < 2 ^ 8) committed x (left_bytes (committed ∷ x) (committed_frames bodies) all)) (frames_bytes bodies (right_bytes (committed ∷ x) (committed_frames bodies) all))
 
 -- the bodies in an image of bytes are bytes
-pub image_bytes : (head : List ℕ) (bodies : List (List ℕ)) (rest image : List ℕ) → image ≡ log.log_front head bodies ++ rest → AllBytes image → All AllBytes bodies
+pub image_bytes : (head : List ℕ) (bodies : List (List ℕ)) (rest image : List ℕ) → image ≡ log.log_front head bodies ++ rest → AreBytes image → All AreBytes bodies
 image_bytes head bodies rest image parts all =
-    frames_bytes bodies (right_bytes head (committed_frames bodies) (left_bytes (log.log_front head bodies) rest (subst AllBytes parts all)))
+    frames_bytes bodies (right_bytes head (committed_frames bodies) (left_bytes (log.log_front head bodies) rest (subst AreBytes parts all)))
 
 -- ---- what a disk stands for
 

@@ -13,7 +13,7 @@ use Rattle.commit_log.specs.OpenLog as log
 use Rattle.commit_log.specs.declared.log.Log.{Log}
 use Rattle.crash_disk.specs.DiskState.{DiskState}
 use Rattle.crash_disk.specs.Moments.{EachMoment}
-use Rattle.pair_world.specs.World.{first_duty}
+use Rattle.ali_base.specs.Duties.{first_duty}
 use Rattle.duty_register.specs.DutiesRead.{AreReadUpTo, EndsWith}
 use Rattle.duty_register.specs.DutyBytes.{IsDuty, body, is_body}
 use Rattle.duty_register.specs.DutyImage.{AreChanges, StandsFor, first_block}

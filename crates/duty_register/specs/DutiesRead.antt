@@ -1,7 +1,7 @@
 -- The last duty that was read from bodies.
 use Rattle.std.specs.Prelude.{◌≡◌, ℕ, List, ◌∷◌, All, map}
 use Rattle.ali_base.specs.declared.duty.Duty.{Duty}
-use Rattle.pair_world.specs.World.{first_duty}
+use Rattle.ali_base.specs.Duties.{first_duty}
 use Rattle.duty_register.specs.DutyBytes.{IsDuty, body}
 use Rattle.duty_register.specs.DutyState.{with_duty}
 

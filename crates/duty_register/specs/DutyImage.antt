@@ -2,7 +2,7 @@
 use Rattle.std.specs.Prelude.{◌≡◌, ℕ, suc, ◌-◌, ◌≤◌, List, [], ◌∷◌, ◌++◌, replicate, codes, map, length}
 use Rattle.ali_base.specs.declared.duty.Duty.{Duty}
 use Rattle.commit_log.specs.LogImage as log
-use Rattle.pair_world.specs.World.{first_duty}
+use Rattle.ali_base.specs.Duties.{first_duty}
 use Rattle.duty_register.specs.DutyBytes.{IsDuty, body, is_body}
 
 -- the first block, but for the commit byte behind it: ALI OFFICE DUTY1, and zeros

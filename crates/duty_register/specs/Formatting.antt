@@ -5,7 +5,7 @@ use Rattle.commit_log.specs.declared.formatting.FormatFault.{FormatFault}
 use Rattle.commit_log.specs.declared.formatting.FormatFault.TheVariants.{DiskFault, NotEmpty}
 use Rattle.crash_disk.specs.CrashOutcomes.{Stays}
 use Rattle.crash_disk.specs.DiskState.{DiskState}
-use Rattle.pair_world.specs.World.{first_duty}
+use Rattle.ali_base.specs.Duties.{first_duty}
 use Rattle.duty_register.specs.DutyState.{Keeps}
 
 -- An empty disk then stands for the first duty alone, all of it synced. One that is not empty stays as it is, and its length is told.

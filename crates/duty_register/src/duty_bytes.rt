@@ -1,19 +1,9 @@
 //! The bytes of a duty.
 ghost use Rattle.std.specs.Prelude.{◌≡◌, option_map, IfSome};
 ghost use Rattle.commit_log.specs.LogState.{body_of};
-ghost use Rattle.duty_register.specs.DutyBytes.{IsDuty, IsBodyOf, body, holder_letter, mode_letter, holder_at, mode_at, duty_from};
+ghost use Rattle.duty_register.specs.DutyBytes.{IsDuty, IsBodyOf, body, mode_letter, mode_at, duty_from};
 
-use ali_base::{Duty, Mode, NodeName, ZeroFilled, number_at};
-
-// The letter of a holder.
-fn holder_letter(holder: NodeName) -> u8
-    ensures { result ≡ holder_letter holder }
-{
-    match holder {
-        NodeName::A => b'a',
-        NodeName::B => b'b',
-    }
-}
+use ali_base::{Duty, Mode, NodeName, ZeroFilled, front, number_at};
 
 // The letter of a mode.
 fn mode_letter(mode: Mode) -> u8
@@ -32,21 +22,10 @@ pub(crate) fn duty_block(duty: Duty) -> [u8; 32]
 {
     let mut block = ZeroFilled::new();
     block.push_number(duty.epoch);
-    block.push(&[holder_letter(duty.holder), mode_letter(duty.mode)]);
+    block.push(&duty.holder.text());
+    block.push(&[mode_letter(duty.mode)]);
     block.push_number(duty.floor);
     block.whole()
-}
-
-// The holder by its letter, and what is left after it.
-#[tactic(auto, unfolding(crate::specs::DutyBytes::holder_at))]
-fn holder_at(bytes: &[u8]) -> Option<(NodeName, &[u8])>
-    ensures { option_map (λ x. (x.0, x.1.now)) result ≡ holder_at bytes.now }
-{
-    match bytes {
-        [b'a', rest @ ..] => Some((NodeName::A, rest)),
-        [b'b', rest @ ..] => Some((NodeName::B, rest)),
-        _ => None,
-    }
 }
 
 // The mode by its letter, and what is left after it.
@@ -76,9 +55,10 @@ fn duty_from(number: u32, bytes: &[u8]) -> Option<Duty>
     ensures { result ≡ duty_from number bytes.now }
 {
     let (epoch, rest) = number_at(bytes)?;
-    let (holder, rest) = holder_at(rest)?;
+    let (letter, rest) = front::<1>(rest)?;
     let (mode, rest) = mode_at(rest)?;
     let (floor, rest) = number_at(rest)?;
+    let holder = NodeName::read(letter)?;
     if rest == [0; 21].as_slice() && epoch as u64 == number as u64 + 1 {
         Some(Duty {
             epoch,

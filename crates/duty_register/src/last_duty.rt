@@ -2,7 +2,7 @@
 ghost use Rattle.std.specs.Prelude.{◌≡◌, ◌^◌, List, ℕ};
 ghost use Rattle.duty_register.specs.DutiesRead.{AreReadUpTo};
 ghost use Rattle.duty_register.specs.DutyBytes.{is_body};
-ghost use Rattle.pair_world.specs.World.{first_duty};
+ghost use Rattle.ali_base.specs.Duties.{first_duty};
 
 use crate::duty_bytes::duty_of;
 use ali_base::{Duty, Mode, NodeName};

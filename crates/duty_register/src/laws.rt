@@ -1,8 +1,9 @@
 //! Laws on images, bodies and duties, for whoever reads the definitions.
-ghost use Rattle.std.specs.Prelude.{◌≡◌, ◌≤◌, ◌<◌, ◌^◌, ◌+◌, ◌⊎◌, List, ℕ, All, Some, true};
+ghost use Rattle.std.specs.Prelude.{◌≡◌, ◌≤◌, ◌+◌, ◌⊎◌, List, ℕ, Some, true};
+ghost use Rattle.ali_base.specs.Fronts.{AreBytes};
 ghost use Rattle.ali_base.specs.declared.duty.Duty.{Duty};
 ghost use Rattle.crash_disk.specs.Moments.{EachMoment};
-ghost use Rattle.duty_register.specs.DutyBytes.{IsDuty, IsBodyOf, body, is_body};
+ghost use Rattle.duty_register.specs.DutyBytes.{IsDuty, IsSomeBody, body, is_body};
 ghost use Rattle.duty_register.specs.DutyImage.{StandsFor, StandsForSome, IsForeign, IsDamaged, IsDamagedSomewhere};
 ghost use Rattle.duty_register.specs.DutyState.{StandsForEither};
 ghost use Rattle.duty_register.specs.OpenRegister.{IsOpened, Represents};
@@ -17,8 +18,8 @@ use crash_disk::Disk;
 pub fn duties_are_read_as_written()
     ensures back { (k : ℕ) (duty : Duty) →
         IsDuty duty → duty.epoch ≡ k + 1 → is_body k (body duty) ≡ true }
-    ensures only { (k : ℕ) (bytes : List ℕ) → All (λ byte. byte < 2 ^ 8) bytes →
-        is_body k bytes ≡ true → (duty : Duty) × IsBodyOf k duty bytes }
+    ensures only { (k : ℕ) (bytes : List ℕ) → AreBytes bytes →
+        is_body k bytes ≡ true → IsSomeBody k bytes }
     ensures one { (duty other : Duty) →
         IsDuty duty → IsDuty other → body duty ≡ body other → duty ≡ other }
 {}
@@ -40,7 +41,7 @@ pub fn duties_are_known_from_the_image()
 /// Each image is exactly one of these: foreign, damaged at one frame, or standing for duties whose
 /// epochs are at most the last one.
 pub fn an_image_is_read_one_way()
-    ensures some { (image : List ℕ) (last_epoch : ℕ) → 1 ≤ last_epoch → All (λ byte. byte < 2 ^ 8) image →
+    ensures some { (image : List ℕ) (last_epoch : ℕ) → 1 ≤ last_epoch → AreBytes image →
         IsForeign image ⊎ IsDamagedSomewhere last_epoch image ⊎ StandsForSome last_epoch image }
     ensures not_foreign { (image : List ℕ) (duties : List Duty) →
         StandsFor duties image → IsForeign image → ⊥ }

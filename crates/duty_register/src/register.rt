@@ -1,5 +1,6 @@
 //! The register.
 ghost use Rattle.std.specs.Prelude.{◌≡◌, ◌≤◌, ◌<◌, ◌+◌, true, is_ok};
+ghost use Rattle.ali_base.specs.Duties.{next_duty};
 ghost use Rattle.ali_base.specs.declared.duty.Mode.TheVariants as modes;
 ghost use Rattle.commit_log.specs.OpenLog.{body_len_of, limit_of as log_limit, count_of as log_count, is_usable as log_usable};
 ghost use Rattle.duty_register.specs.declared.register.TheConstants.{LAST_EPOCH};
@@ -30,7 +31,6 @@ pub struct Register<D> {
 
 impl<D: Disk + Drop> Register<D> {
     ghost use Rattle.duty_register.specs.OpenRegister.{OpenAnswers, ReopenAnswers, ChangeAnswers, Becomes, CrashesBetween, IsFixed};
-    ghost use Rattle.ali_base.specs.Duties.{next_duty};
     ghost use Rattle.duty_register.specs.OpenRegister.{disk_of, duty_of, is_usable, taken, left_alone, paired};
 
     /// Opens the register, whose duties have at most the last epoch. It syncs the disk, changes no

@@ -1,15 +1,15 @@
-use Rattle.std.proofs.Common.{inl, inr, ℕ, ◌-◌, ◌^◌, ◌<◌, ◌≤◌, List, ◌∷◌, length, map, refl, ap, arith}
-use Rattle.std.specs.Prelude.{All}
+use Rattle.std.proofs.Common.{inl, inr, ℕ, ◌-◌, ◌≤◌, List, ◌∷◌, length, map, refl, ap, arith}
+use Rattle.ali_base.specs.Fronts.{AreBytes}
 use Rattle.std.proofs.lemmas.List.{length-map}
 use Rattle.commit_log.specs.LogImage as log
-use Rattle.pair_world.specs.World.{first_duty}
+use Rattle.ali_base.specs.Duties.{first_duty}
 use Rattle.duty_register.specs.DutyBytes.{body, is_body}
 use Rattle.duty_register.specs.DutyImage.{StandsForSome, first_block}
 use Rattle.duty_register.proofs.Registers.{bodies_found, image_bytes, stands_from}
 use Rattle.duty_register.proofs.laws.an_image_is_read_one_way.Goals as goal
 
 -- an image that is a log of bodies stands for duties
-duties_of : (image : List ℕ) (last_epoch : ℕ) → 1 ≤ last_epoch → All (λ byte. byte < 2 ^ 8) image → log.StandsForSome is_body first_block (last_epoch - 1) image
+duties_of : (image : List ℕ) (last_epoch : ℕ) → 1 ≤ last_epoch → AreBytes image → log.StandsForSome is_body first_block (last_epoch - 1) image
     → StandsForSome last_epoch image
 duties_of image last_epoch some bytes found =
     let stands = found.2 in

@@ -1,5 +1,5 @@
 use Rattle.std.proofs.Common.{[], sym, refl, subst}
-use Rattle.pair_world.specs.World.{first_duty}
+use Rattle.ali_base.specs.Duties.{first_duty}
 use Rattle.duty_register.proofs.Registers.{Newest, newest}
 use Rattle.duty_register.proofs.laws.duties_are_counted.Goals as goal
 

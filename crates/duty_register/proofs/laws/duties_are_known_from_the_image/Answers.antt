@@ -1,6 +1,6 @@
 use Rattle.std.proofs.Common.{◌∷◌, List, map, sym, ap, ◌∙◌}
 use Rattle.ali_base.specs.declared.duty.Duty.{Duty}
-use Rattle.pair_world.specs.World.{first_duty}
+use Rattle.ali_base.specs.Duties.{first_duty}
 use Rattle.duty_register.specs.DutyBytes.{body}
 use Rattle.duty_register.specs.DutyImage.{first_block}
 use Rattle.duty_register.proofs.Registers.{one_list}

@@ -3,7 +3,7 @@ use Rattle.std.specs.Prelude.{is_some}
 use Rattle.std.proofs.lemmas.List.Elements.{All-push}
 use Rattle.ali_base.specs.declared.duty.Duty.{Duty}
 use Rattle.commit_log.specs.LogState.{with_body}
-use Rattle.pair_world.specs.World.{first_duty}
+use Rattle.ali_base.specs.Duties.{first_duty}
 use Rattle.duty_register.specs.DutiesRead.{AreReadUpTo}
 use Rattle.duty_register.specs.DutyBytes.{IsDuty, IsBodyOf, body, is_body}
 use Rattle.duty_register.proofs.DutiesOfBytes.{duty_found}

@@ -1,8 +1,8 @@
 use Rattle.std.proofs.Common.{◌≡◌, ◌+◌, map, refl, ap, ◌∙◌, arith}
+use Rattle.ali_base.specs.Duties.{next_duty}
 use Rattle.commit_log.specs.OpenLog as log
 use Rattle.duty_register.specs.DutyBytes.{body, is_body}
 use Rattle.duty_register.specs.DutyImage.{first_block}
-use Rattle.ali_base.specs.Duties.{next_duty}
 use Rattle.duty_register.specs.OpenRegister.{duty_of}
 use Rattle.duty_register.proofs.DutiesOfBytes.{is_body-body}
 use Rattle.duty_register.proofs.Represented.{changes, logged, kept_after, moments_of}
