@@ -5,7 +5,7 @@ use Rattle.crash_disk.specs.Moments.{IsSynced}
 use Rattle.commit_log.specs.LogImage.{StandsFor}
 
 -- The disk stands for these bodies, all of them synced.
-pub record Keeps (is_body : ℕ → List ℕ → Bool) (head : List ℕ) (bodies : List (List ℕ)) (s : DiskState) : Type 0 where
+pub record KeepsBodies (is_body : ℕ → List ℕ → Bool) (head : List ℕ) (bodies : List (List ℕ)) (s : DiskState) : Type 0 where
   pub image : List ℕ
   pub synced : IsSynced s image
   pub stands : StandsFor is_body head bodies image

@@ -6,7 +6,7 @@ use Rattle.crash_disk.specs.CrashOutcomes.{Stays}
 use Rattle.crash_disk.specs.Moments.{EachMoment}
 use Rattle.crash_disk.specs.declared.disk.Failed.{Failed}
 use Rattle.commit_log.specs.LogImage.{frame_place}
-use Rattle.commit_log.specs.LogState.{Keeps, StandsForEither}
+use Rattle.commit_log.specs.LogState.{KeepsBodies, StandsForEither}
 use Rattle.commit_log.specs.Opening.{Found, Refused}
 use Rattle.commit_log.specs.declared.log.Log.{Log}
 use Rattle.commit_log.specs.declared.log.AppendFault.{AppendFault}
@@ -37,7 +37,7 @@ is_usable log = log.usable
 
 -- Its disk stands for these bodies, all of them synced, and it has their count and their length.
 pub record Represents {D R : Type 0} (is_body : ℕ → List ℕ → Bool) (state : D → DiskState) (head : List ℕ) (bodies : List (List ℕ)) (log : Log D R) : Type 0 where
-  pub kept : Keeps is_body head bodies (state log.disk)
+  pub kept : KeepsBodies is_body head bodies (state log.disk)
   pub counts : log.count ≡ length bodies
   pub long : log.body_len ≡ length head
 

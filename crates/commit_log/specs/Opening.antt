@@ -3,7 +3,7 @@ use Rattle.std.specs.Prelude.{◌≡◌, ◌≢◌, ℕ, Bool, List, ◌++◌, �
 use Rattle.ali_base.specs.Faults.{Rose}
 use Rattle.crash_disk.specs.DiskState.{DiskState}
 use Rattle.commit_log.specs.LogImage.{AreBodies, IsForeign, IsDamaged, log_front, committed}
-use Rattle.commit_log.specs.LogState.{Keeps}
+use Rattle.commit_log.specs.LogState.{KeepsBodies}
 use Rattle.commit_log.specs.declared.pieces.Block.{Block}
 use Rattle.commit_log.specs.declared.opening.OpenFault.{OpenFault}
 use Rattle.commit_log.specs.declared.opening.OpenFault.TheVariants.{DiskFault, Foreign, Damaged}
@@ -14,7 +14,7 @@ pub record Found (is_body : ℕ → List ℕ → Bool) (holds : List (List ℕ) 
   pub counts : count ≡ length bodies
   pub lawful : AreBodies is_body (length head) 1 bodies
   pub held : holds bodies
-  pub kept : (image : List ℕ) → old.content ≡ Some image → Keeps is_body head bodies new
+  pub kept : (image : List ℕ) → old.content ≡ Some image → KeepsBodies is_body head bodies new
 
 -- what a refusal says of the disk's bytes; of a failure, that the count of faults rose
 abbrev pub Refused : (ℕ → List ℕ → Bool) → List ℕ → ℕ → DiskState → DiskState → OpenFault → Type 0

@@ -17,7 +17,7 @@ use Rattle.ali_base.specs.Duties.{first_duty}
 use Rattle.pair_world.specs.World.{duty_list}
 use Rattle.duty_register.specs.DutyBytes.{IsDuty, body, is_body}
 use Rattle.duty_register.specs.DutyImage.{AreChanges, StandsFor, first_block}
-use Rattle.duty_register.specs.DutyState.{Keeps, StandsForEither}
+use Rattle.duty_register.specs.DutyState.{KeepsDuties, StandsForEither}
 use Rattle.duty_register.proofs.DutiesOfBytes.{body_counts, body_found, one_duty}
 
 -- ---- lists
@@ -121,7 +121,7 @@ image_bytes head bodies rest image parts all =
 
 -- ---- what a disk stands for
 
-pub as_log : (duties : List Duty) (s : DiskState) (k : Keeps duties s) → kept.Keeps is_body first_block (map body k.stands.changes) s
+pub as_log : (duties : List Duty) (s : DiskState) (k : KeepsDuties duties s) → kept.KeepsBodies is_body first_block (map body k.stands.changes) s
 as_log duties s k = record { image = k.image; synced = k.synced; stands = k.stands.logged }
 
 -- the image stands for duties where it is a log of the bodies of their changes
@@ -135,7 +135,7 @@ stands_from duties changes bodies image begins counted same stands = record {
 }
 
 pub from_log : (duties changes : List Duty) (bodies : List (List ℕ)) (s : DiskState) → duties ≡ first_duty ∷ changes → AreChanges 1 changes → bodies ≡ map body changes
-    → kept.Keeps is_body first_block bodies s → Keeps duties s
+    → kept.KeepsBodies is_body first_block bodies s → KeepsDuties duties s
 from_log duties changes bodies s begins counted same k = record { image = k.image; synced = k.synced; stands = stands_from duties changes bodies k.image begins counted same k.stands }
 
 -- a crash at any moment leaves the duties before or after

@@ -17,7 +17,7 @@ use Rattle.ali_base.specs.Duties.{first_duty}
 use Rattle.duty_register.specs.DutiesRead.{AreReadUpTo, EndsWith}
 use Rattle.duty_register.specs.DutyBytes.{IsDuty, body, is_body}
 use Rattle.duty_register.specs.DutyImage.{AreChanges, StandsFor, first_block}
-use Rattle.duty_register.specs.DutyState.{Keeps, StandsForEither, with_duty}
+use Rattle.duty_register.specs.DutyState.{KeepsDuties, StandsForEither, with_duty}
 use Rattle.duty_register.specs.OpenRegister.{Represents, Refused, refusal, disk_of, duty_of, is_usable}
 use Rattle.duty_register.specs.declared.last_duty.LastDuty.{LastDuty}
 use Rattle.duty_register.specs.declared.register.Register.{Register}
@@ -57,7 +57,7 @@ module _ {D : Type 0} (state : D → DiskState) (register : Register D) (duties 
     bodies = ap (λ (b : List ℕ). map body changes ++ b ∷ []) spelled ∙ sym (bodies_push changes duty)
 
     -- it keeps one duty more
-    pub kept_after : (s : DiskState) → kept.Keeps is_body first_block (kept.with_body (map body changes) bytes) s → Keeps (with_duty duties duty) s
+    pub kept_after : (s : DiskState) → kept.KeepsBodies is_body first_block (kept.with_body (map body changes) bytes) s → KeepsDuties (with_duty duties duty) s
     kept_after s after = from_log (with_duty duties duty) (changes ++ duty ∷ []) (kept.with_body (map body changes) bytes) s begins pushed bodies after
 
     pub moments_of : (new : DiskState) → EachMoment (state (disk_of register)) new (kept.StandsForEither is_body first_block (map body changes) (kept.with_body (map body changes) bytes))
@@ -71,7 +71,7 @@ module _ {D : Type 0} (state : D → DiskState) (register : Register D) (duties 
 pub record Shown {D : Type 0} (state : D → DiskState) (image : List ℕ) (duty : Duty) (disk : D) : Type 0 where
   pub duties : List Duty
   pub stands : StandsFor duties image
-  pub kept : Keeps duties (state disk)
+  pub kept : KeepsDuties duties (state disk)
   pub known : EndsWith duties duty
 
 module _ {D : Type 0} (state : D → DiskState) (disk : D) (limit : ℕ) (head : List ℕ) (duty : Duty) (is : head ≡ first_block) (opened : Log D LastDuty)
@@ -89,7 +89,7 @@ module _ {D : Type 0} (state : D → DiskState) (disk : D) (limit : ℕ) (head :
 
   pub shown_duties : (image : List ℕ) → (state disk).content ≡ Some image → Shown state image duty (log.disk_of opened)
   shown_duties image told =
-      let kept = from_log (first_duty ∷ read) read found.found.bodies (state (log.disk_of opened)) refl read_counted found.found.held.bodies_are (subst (λ (h : List ℕ). kept.Keeps is_body h found.found.bodies (state (log.disk_of opened))) is (found.found.kept image told)) in
+      let kept = from_log (first_duty ∷ read) read found.found.bodies (state (log.disk_of opened)) refl read_counted found.found.held.bodies_are (subst (λ (h : List ℕ). kept.KeepsBodies is_body h found.found.bodies (state (log.disk_of opened))) is (found.found.kept image told)) in
       record {
         duties = first_duty ∷ read;
         stands = subst (StandsFor (first_duty ∷ read)) (same_Some kept.image image (sym kept.synced.told ∙ found.stays.content ∙ told)) kept.stands;

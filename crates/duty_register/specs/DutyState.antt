@@ -6,7 +6,7 @@ use Rattle.crash_disk.specs.Moments.{IsSynced}
 use Rattle.duty_register.specs.DutyImage.{StandsFor}
 
 -- The disk stands for these duties, all of them synced.
-pub record Keeps (duties : List Duty) (s : DiskState) : Type 0 where
+pub record KeepsDuties (duties : List Duty) (s : DiskState) : Type 0 where
   pub image : List ℕ
   pub synced : IsSynced s image
   pub stands : StandsFor duties image

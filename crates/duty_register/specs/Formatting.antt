@@ -6,10 +6,10 @@ use Rattle.commit_log.specs.declared.formatting.FormatFault.TheVariants.{DiskFau
 use Rattle.crash_disk.specs.CrashOutcomes.{Stays}
 use Rattle.crash_disk.specs.DiskState.{DiskState}
 use Rattle.ali_base.specs.Duties.{first_duty}
-use Rattle.duty_register.specs.DutyState.{Keeps}
+use Rattle.duty_register.specs.DutyState.{KeepsDuties}
 
 -- An empty disk then stands for the first duty alone, all of it synced. One that is not empty stays as it is, and its length is told.
 abbrev pub FormatAnswers : DiskState → DiskState → Result (Unit {0}) FormatFault → Type 0
-FormatAnswers old new (Ok x) = (image : List ℕ) → old.content ≡ Some image → (image ≡ []) × Keeps (first_duty ∷ []) new
+FormatAnswers old new (Ok x) = (image : List ℕ) → old.content ≡ Some image → (image ≡ []) × KeepsDuties (first_duty ∷ []) new
 FormatAnswers old new (Err DiskFault) = Rose old.faults new.faults
 FormatAnswers old new (Err (NotEmpty len)) = (0 < len) × Stays old new × ((image : List ℕ) → old.content ≡ Some image → len ≡ length image)

@@ -14,7 +14,7 @@ use Rattle.crash_disk.specs.DiskState.{DiskState}
 use Rattle.crash_disk.specs.Moments.{EachMoment}
 use Rattle.duty_register.specs.DutiesRead.{EndsWith}
 use Rattle.duty_register.specs.DutyImage.{StandsFor, IsForeign, IsDamaged}
-use Rattle.duty_register.specs.DutyState.{Keeps, StandsForEither, with_duty}
+use Rattle.duty_register.specs.DutyState.{KeepsDuties, StandsForEither, with_duty}
 use Rattle.duty_register.specs.declared.faults.DutyFault.{DutyFault}
 use Rattle.duty_register.specs.declared.faults.DutyFault.TheVariants as changing
 use Rattle.duty_register.specs.declared.faults.RegisterFault.{RegisterFault}
@@ -39,7 +39,7 @@ is_usable register = log.is_usable register.log
 
 -- Its disk stands for these duties, all of them synced, and the last of them is the present one.
 pub record Represents {D : Type 0} (state : D → DiskState) (register : Register D) (duties : List Duty) : Type 0 where
-  pub kept : Keeps duties (state (disk_of register))
+  pub kept : KeepsDuties duties (state (disk_of register))
   pub known : EndsWith duties (duty_of register)
 
 -- the last epoch stays, and the count of faults doesn't fall

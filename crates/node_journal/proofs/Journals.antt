@@ -19,7 +19,7 @@ use Rattle.pair_world.specs.Frames.{Frame, epochs}
 use Rattle.node_journal.specs.EpochsRead.{epoch_in}
 use Rattle.node_journal.specs.FrameBytes.{IsFrame, body, bodies_from, is_body}
 use Rattle.node_journal.specs.JournalImage.{first_block}
-use Rattle.node_journal.specs.JournalState.{Keeps, StandsForEither}
+use Rattle.node_journal.specs.JournalState.{KeepsFrames, StandsForEither}
 use Rattle.node_journal.proofs.FramesOfBytes.{body_found, epoch_in-body, one_frame}
 
 -- ---- bodies of frames
@@ -111,10 +111,10 @@ image_bytes head bodies next rest image parts all =
 
 -- ---- what a disk stands for
 
-pub as_log : (name : NodeName) (frames : List (Frame Entry)) (s : DiskState) → Keeps name frames s → kept.Keeps is_body (first_block name) (bodies_from 1 frames) s
+pub as_log : (name : NodeName) (frames : List (Frame Entry)) (s : DiskState) → KeepsFrames name frames s → kept.KeepsBodies is_body (first_block name) (bodies_from 1 frames) s
 as_log name frames s k = record { image = k.image; synced = k.synced; stands = k.stands.logged }
 
-pub from_log : (name : NodeName) (frames : List (Frame Entry)) (bodies : List (List ℕ)) (s : DiskState) → All IsFrame frames → bodies ≡ bodies_from 1 frames → kept.Keeps is_body (first_block name) bodies s → Keeps name frames s
+pub from_log : (name : NodeName) (frames : List (Frame Entry)) (bodies : List (List ℕ)) (s : DiskState) → All IsFrame frames → bodies ≡ bodies_from 1 frames → kept.KeepsBodies is_body (first_block name) bodies s → KeepsFrames name frames s
 from_log name frames bodies s lawful same k = record {
   image = k.image;
   synced = k.synced;

@@ -19,7 +19,7 @@ use Rattle.office_entry.specs.declared.entry.Entry.{Entry}
 use Rattle.pair_world.specs.Frames.{Frame, epochs}
 use Rattle.node_journal.specs.FrameBytes.{IsFrame, body, bodies_from, is_body}
 use Rattle.node_journal.specs.JournalImage.{StandsFor, first_block}
-use Rattle.node_journal.specs.JournalState.{Keeps}
+use Rattle.node_journal.specs.JournalState.{KeepsFrames}
 use Rattle.node_journal.specs.OpenJournal.{Represents, Refused, refusal, disk_of, name_of, epochs_of, is_usable}
 use Rattle.node_journal.specs.EpochsRead.{AreEpochsOf, epoch_in}
 use Rattle.node_journal.specs.declared.epochs.Epochs.{Epochs}
@@ -46,7 +46,7 @@ pub record Listed {D : Type 0} (journal : Journal D) (frames : List (Frame Entry
 pub record Shown {D : Type 0} (state : D → DiskState) (name : NodeName) (image known : List ℕ) (disk : D) : Type 0 where
   pub frames : List (Frame Entry)
   pub stands : StandsFor name frames image
-  pub kept : Keeps name frames (state disk)
+  pub kept : KeepsFrames name frames (state disk)
   pub known_are : known ≡ epochs frames
 
 module _ {D : Type 0} (state : D → DiskState) (journal : Journal D) (frames : List (Frame Entry)) (usable : is_usable journal ≡ true) (shown : Represents state journal frames) where
@@ -92,7 +92,7 @@ module _ {D : Type 0} (state : D → DiskState) (disk : D) (name : NodeName) (li
 
   pub shown_frames : (image : List ℕ) → (state disk).content ≡ Some image → Shown state name image known (log.disk_of opened)
   shown_frames image told =
-      let kept = from_log name read.frames found.found.bodies (state (log.disk_of opened)) read.lawful read.bodies_are (subst (λ (h : List ℕ). kept.Keeps is_body h found.found.bodies (state (log.disk_of opened))) is (found.found.kept image told)) in
+      let kept = from_log name read.frames found.found.bodies (state (log.disk_of opened)) read.lawful read.bodies_are (subst (λ (h : List ℕ). kept.KeepsBodies is_body h found.found.bodies (state (log.disk_of opened))) is (found.found.kept image told)) in
       record {
         frames = read.frames;
         stands = subst (StandsFor name read.frames) (same_Some kept.image image (sym kept.synced.told ∙ found.stays.content ∙ told)) kept.stands;

@@ -8,7 +8,7 @@ use Rattle.pair_world.specs.Frames.{Frame}
 use Rattle.node_journal.specs.JournalImage.{StandsFor}
 
 -- The disk stands for these frames, all of them synced.
-pub record Keeps (name : NodeName) (frames : List (Frame Entry)) (s : DiskState) : Type 0 where
+pub record KeepsFrames (name : NodeName) (frames : List (Frame Entry)) (s : DiskState) : Type 0 where
   pub image : List ℕ
   pub synced : IsSynced s image
   pub stands : StandsFor name frames image

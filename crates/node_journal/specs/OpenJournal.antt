@@ -12,7 +12,7 @@ use Rattle.office_entry.specs.declared.entry.Entry.{Entry}
 use Rattle.pair_world.specs.Frames.{Frame, epochs}
 use Rattle.node_journal.specs.FrameBytes.{IsFrame, body}
 use Rattle.node_journal.specs.JournalImage.{StandsFor, IsForeign, IsDamaged}
-use Rattle.node_journal.specs.JournalState.{Keeps, StandsForEither}
+use Rattle.node_journal.specs.JournalState.{KeepsFrames, StandsForEither}
 use Rattle.node_journal.specs.declared.faults.AppendFault.{AppendFault}
 use Rattle.node_journal.specs.declared.faults.AppendFault.TheVariants as appending
 use Rattle.node_journal.specs.declared.faults.DiskFault.{DiskFault}
@@ -48,7 +48,7 @@ is_usable journal = log.is_usable journal.log
 
 -- Its disk stands for these frames, all of them synced, and it knows their epochs.
 pub record Represents {D : Type 0} (state : D → DiskState) (journal : Journal D) (frames : List (Frame Entry)) : Type 0 where
-  pub kept : Keeps (name_of journal) frames (state (disk_of journal))
+  pub kept : KeepsFrames (name_of journal) frames (state (disk_of journal))
   pub known : epochs_of journal ≡ epochs frames
 
 -- node and limit stay, and the count of faults doesn't fall
