@@ -10,7 +10,8 @@ use Rattle.ali_base.proofs.Steps.{bind_ok, some_is}
 use Rattle.text_line.specs.WordReading.{number_of, split_once}
 use Rattle.text_line.proofs.NumberTexts.{number_of-decimal, decimal-number_of}
 use Rattle.text_line.proofs.Splits.{Clear, Clear-append, split_again, split_none, split_is, decimal_clear}
-use Rattle.command_machine.specs.Commands.{file_limit, IsAsk}
+use Rattle.command_machine.specs.Commands.{IsAsk}
+use Rattle.command_machine.specs.declared.command.TheConstants.{FILE_LIMIT}
 use Rattle.command_machine.specs.CommandText.{ask_text, file_text, IsEditLine, SpellsLine}
 use Rattle.command_machine.specs.LineReading.{file_of, edit_of, word_alone, by_word, line_in, line_of}
 use Rattle.command_machine.specs.declared.command_line.CommandLine.{CommandLine}
@@ -27,7 +28,7 @@ ask_clear p tn since h =
     let words = Clear-append 10 (decimal p) (32 ∷ (tn ++ 32 ∷ decimal since)) (decimal_clear 10 refl p (omega (arith, h.high))) (refl, last) in
     (refl, (refl, (refl, (refl, (refl, (refl, words))))))
 
-file_clear : (len : ℕ) → len ≤ file_limit → Clear 10 (file_text len)
+file_clear : (len : ℕ) → len ≤ FILE_LIMIT → Clear 10 (file_text len)
 file_clear len small = (refl, (refl, (refl, (refl, (refl, decimal_clear 10 refl len (omega arith))))))
 
 edit_clear : (text : List ℕ) (editor serial : ℕ) (words : List ℕ) → IsEditLine text editor serial words → Clear 10 words → Clear 10 text
@@ -53,10 +54,10 @@ alone : (line : List ℕ) → Clear 32 line → line_of line ≡ word_alone line
 unfolding line_of
 alone line clear = ap (line_in line) (split_none 32 line clear)
 
-file_of-text : (len : ℕ) → len ≤ file_limit → file_of (decimal len) ≡ Some (File len)
+file_of-text : (len : ℕ) → len ≤ FILE_LIMIT → file_of (decimal len) ≡ Some (File len)
 unfolding file_of
 file_of-text len small =
-    let low : nat_le len file_limit ≡ true = grind (arith, nat_tests) in
+    let low : nat_le len FILE_LIMIT ≡ true = grind (arith, nat_tests) in
     rw (number_of-decimal len (omega arith), low) refl
 
 -- what is spelled is read
@@ -75,12 +76,12 @@ this_word text word x y z h = elim (cases_Bool (bytes_eq text word)) [
   | inr other ↦ inr (sym (cond-false (bytes_eq text word) x y other) ∙ h)
 ]
 
-file-file_of : (words : List ℕ) (line : CommandLine) → file_of words ≡ Some line → (len : ℕ) × (len ≤ file_limit) × (line ≡ File len) × (words ≡ decimal len)
+file-file_of : (words : List ℕ) (line : CommandLine) → file_of words ≡ Some line → (len : ℕ) × (len ≤ FILE_LIMIT) × (line ≡ File len) × (words ≡ decimal len)
 unfolding file_of
 file-file_of words line h =
     let number = bind_ok (number_of words) _ line h in
-    let test = cond_some (nat_le number.0 file_limit) (File number.0) line number.2 in
-    let low : number.0 ≤ file_limit = grind (arith, nat_tests, test.0) in
+    let test = cond_some (nat_le number.0 FILE_LIMIT) (File number.0) line number.2 in
+    let low : number.0 ≤ FILE_LIMIT = grind (arith, nat_tests, test.0) in
     (number.0, low, sym test.1, (decimal-number_of words number.0 number.1).0)
 
 spelled-alone : (text : List ℕ) (line : CommandLine) → word_alone text ≡ Some line → SpellsLine text line

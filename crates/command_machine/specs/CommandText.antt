@@ -3,7 +3,8 @@ use Rattle.std.specs.Prelude.{◌≡◌, ℕ, ◌≤◌, List, ◌∷◌, ◌++�
 use Rattle.std.specs.Fmt.{decimal}
 use Rattle.ali_base.specs.Editors.{IsEditor, IsSerial}
 use Rattle.office_entry.specs.EditText.{IsEditText}
-use Rattle.command_machine.specs.Commands.{file_limit, IsAsk}
+use Rattle.command_machine.specs.Commands.{IsAsk}
+use Rattle.command_machine.specs.declared.command.TheConstants.{FILE_LIMIT}
 use Rattle.command_machine.specs.declared.command_line.CommandLine.{CommandLine}
 use Rattle.command_machine.specs.declared.command_line.CommandLine.TheVariants.{Ask, File, Edit, Next, Batch}
 
@@ -28,7 +29,7 @@ pub record IsEditLine (text : List ℕ) (editor serial : ℕ) (words : List ℕ)
 -- the text is that of this line
 abbrev pub SpellsLine : List ℕ → CommandLine → Type 0
 SpellsLine text (Ask ask) = IsAsk ask.position ask.tn ask.since × (text ≡ ask_text ask.position ask.tn ask.since)
-SpellsLine text (File len) = (len ≤ file_limit) × (text ≡ file_text len)
+SpellsLine text (File len) = (len ≤ FILE_LIMIT) × (text ≡ file_text len)
 SpellsLine text (Edit editor serial edit) = (words : List ℕ) × IsEditText words edit × IsEditLine text editor serial words
 SpellsLine text Next = text ≡ codes "NEXT"
 SpellsLine text Batch = text ≡ codes "BATCH"

@@ -4,6 +4,7 @@ use Rattle.ali_base.specs.Editors.{IsEditor, IsSerial}
 use Rattle.ali_base.specs.TelephoneNumber.{IsTn}
 use Rattle.office_entry.specs.declared.edit.Edit.{Edit as GuideEdit}
 use Rattle.office_entry.specs.Edits.{IsEdit}
+use Rattle.command_machine.specs.declared.command.TheConstants.{FILE_LIMIT}
 
 -- a command: the request of a position, which asks for a number after at least so many entries; a carrier's file; an editor's edit of the street guide; the next entry of the job, which is the file or edit that was read last; and all that are left of it
 pub data Command : Type 0 where
@@ -12,10 +13,6 @@ pub data Command : Type 0 where
   Edit : (editor serial : ℕ) (edit : GuideEdit) → Command
   Next : Command
   Batch : Command
-
--- the most bytes of a carrier's file
-abbrev pub file_limit : ℕ
-file_limit = 16_777_216
 
 -- a position is 1 to 64
 pub record IsAsk (position : ℕ) (tn : List ℕ) (since : ℕ) : Type 0 where
@@ -27,7 +24,7 @@ pub record IsAsk (position : ℕ) (tn : List ℕ) (since : ℕ) : Type 0 where
 -- what a command is
 abbrev pub IsCommand : Command → Type 0
 IsCommand (Ask position tn since) = IsAsk position tn since
-IsCommand (File content) = length content ≤ file_limit
+IsCommand (File content) = length content ≤ FILE_LIMIT
 IsCommand (Edit editor serial edit) = IsEditor editor × IsSerial serial × IsEdit edit
 IsCommand Next = Unit {0}
 IsCommand Batch = Unit {0}

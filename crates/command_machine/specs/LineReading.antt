@@ -6,7 +6,7 @@ use Rattle.ali_base.specs.TelephoneNumber.{tn_of}
 use Rattle.ali_base.specs.declared.editor.TheConstants.{EDITORS, LAST_SERIAL}
 use Rattle.text_line.specs.WordReading.{number_of, split_once}
 use Rattle.office_entry.specs.EditReading.{edit_of_text}
-use Rattle.command_machine.specs.Commands.{file_limit}
+use Rattle.command_machine.specs.declared.command.TheConstants.{FILE_LIMIT}
 use Rattle.command_machine.specs.declared.command_line.CommandLine.{CommandLine}
 use Rattle.command_machine.specs.declared.command_line.CommandLine.TheVariants.{Ask, File, Edit, Next, Batch}
 
@@ -25,7 +25,7 @@ ask_of words = do
 unfoldable pub file_of : List ℕ → Option CommandLine
 file_of words = do
   len ← number_of words
-  when (nat_le len file_limit) (File len)
+  when (nat_le len FILE_LIMIT) (File len)
 
 -- behind `EDIT`: `editor serial edit`
 unfoldable pub edit_of : List ℕ → Option CommandLine

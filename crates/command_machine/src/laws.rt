@@ -16,6 +16,8 @@ ghost use Rattle.command_machine.specs.Replies.{Reply, reply_text};
 ghost use Rattle.command_machine.specs.Machine.{Machine, Event, start, state_of, office_limits};
 ghost use Rattle.command_machine.specs.CommandRows.{reply, after, after_all};
 
+use crate::command::FILE_LIMIT;
+
 /// What is read as the line of a command is what is spelled, and what is spelled so is read.
 pub fn command_lines_are_read_as_spelled()
     ensures { (text : List ℕ) (line : CommandLine)
@@ -66,4 +68,9 @@ pub fn batches_complete_their_jobs()
         → let m = after_all start commands in
         m.job ≡ Some job → job_standing (state_of m) job ≡ Ok standing
         → job_standing (state_of (after m Batch)) job ≡ Ok Complete }
+{}
+
+/// A carrier's file has at most 16,777,216 bytes.
+pub fn limit_of_files()
+    ensures { FILE_LIMIT ≡ 16_777_216 }
 {}

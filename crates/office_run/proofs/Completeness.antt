@@ -3,7 +3,8 @@ use Rattle.std.proofs.Common.{◌≡◌, ◌≢◌, ℕ, ◌≤◌, List, ◌++�
 use Rattle.std.specs.Io.KnownBytes.{Consumes, IsAtEnd}
 use Rattle.office_run.specs.ScriptGrammar.{IsScript, StopsAfter}
 use Rattle.command_machine.specs.Commands.{Command}
-use Rattle.office_run.specs.ScriptInput.{script_limit, TookTooMany}
+use Rattle.office_run.specs.ScriptInput.{TookTooMany}
+use Rattle.office_run.specs.declared.input.TheConstants.{SCRIPT_LIMIT}
 use Rattle.office_run.specs.Exit.{Exit, StoppedAt, IsDoneOrNoMemory, Completes}
 use Rattle.office_run.specs.declared.status.Status.{Status}
 use Rattle.office_run.specs.declared.status.Status.TheVariants.{Done, Usage, SourceFault, SinkFault, Script, TooLong, NoMemory}
@@ -21,7 +22,7 @@ at_most script (Some rest) bytes taken = omega (arith, ap length taken, length-a
 
 done : (script : List ℕ) (commands : List Command) (left' old new : Option (List ℕ)) (source_failed sink_failed : Type 0) (status : Status)
     → Exit (Some script) left' old new status → status ≢ Usage → (status ≡ SourceFault → source_failed) → (status ≡ SinkFault → sink_failed)
-    → IsScript script commands → length script ≤ script_limit → ¬ source_failed → ¬ sink_failed → IsDoneOrNoMemory status
+    → IsScript script commands → length script ≤ SCRIPT_LIMIT → ¬ source_failed → ¬ sink_failed → IsDoneOrNoMemory status
 done script commands left' old new source_failed sink_failed Done exit usage source sink is within well_source well_sink = tt
 done script commands left' old new source_failed sink_failed NoMemory exit usage source sink is within well_source well_sink = tt
 done script commands left' old new source_failed sink_failed Usage exit usage source sink is within well_source well_sink = usage refl

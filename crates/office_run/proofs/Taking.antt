@@ -3,7 +3,7 @@ use Rattle.std.proofs.Common.{ℕ, ◌≤◌, List, ◌++◌, length, length-app
 use Rattle.std.specs.Io.KnownBytes.{Consumes}
 use Rattle.std.proofs.KnownBytes.{Consumes-trans, Consumes-kept}
 use Rattle.ali_base.specs.Faults.{Rose}
-use Rattle.office_run.specs.ScriptInput.{script_limit}
+use Rattle.office_run.specs.declared.input.TheConstants.{SCRIPT_LIMIT}
 use Rattle.office_run.specs.InputFaults.{InputStops, PieceStops}
 use Rattle.office_run.specs.declared.input.InputFault.{InputFault}
 use Rattle.office_run.specs.declared.input.InputFault.TheVariants.{NoMemory, Failed, TooLong}
@@ -12,7 +12,7 @@ Rose-later : (before mid now : ℕ) → before ≤ mid → Rose mid now → Rose
 Rose-later before mid now h rose = omega arith
 
 -- why a piece was not taken is why the reading stops
-pub stops_after : {S : Type 0} (left : S → Option (List ℕ)) (faults : S → ℕ) (a b c : S) (bytes : List ℕ) (fault : InputFault) → Consumes (left a) (left b) bytes → length bytes ≤ script_limit → faults a ≤ faults b
+pub stops_after : {S : Type 0} (left : S → Option (List ℕ)) (faults : S → ℕ) (a b c : S) (bytes : List ℕ) (fault : InputFault) → Consumes (left a) (left b) bytes → length bytes ≤ SCRIPT_LIMIT → faults a ≤ faults b
     → PieceStops left faults b c bytes fault → InputStops left faults a c fault
 stops_after left faults a b c bytes NoMemory taken within later h =
     record { bytes = bytes ++ h.0; taken = Consumes-trans (left a) (left b) (left c) bytes h.0 taken h.1; within = omega (arith, length-append bytes h.0, h.2) }

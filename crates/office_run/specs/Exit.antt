@@ -6,7 +6,8 @@ use Rattle.command_machine.specs.Commands.{Command}
 use Rattle.command_machine.specs.Replies.{reply_text}
 use Rattle.command_machine.specs.Machine.{start}
 use Rattle.command_machine.specs.CommandRows.{reply, replies_text, after_all}
-use Rattle.office_run.specs.ScriptInput.{script_limit, TookAll, TookPart, TookSome, TookTooMany}
+use Rattle.office_run.specs.ScriptInput.{TookAll, TookPart, TookSome, TookTooMany}
+use Rattle.office_run.specs.declared.input.TheConstants.{SCRIPT_LIMIT}
 use Rattle.office_run.specs.declared.status.Status.{Status}
 use Rattle.office_run.specs.declared.status.Status.TheVariants.{Done, Usage, SourceFault, SinkFault, Script, TooLong, NoMemory}
 
@@ -69,7 +70,7 @@ IsDoneOrNoMemory TooLong = ⊥
 -- a script of the grammar within the limit is done where nothing fails
 abbrev pub Completes : Option (List ℕ) → Type 0 → Type 0 → Status → Type 0
 Completes left source_failed sink_failed status =
-    (script : List ℕ) (commands : List Command) → left ≡ Some script → IsScript script commands → length script ≤ script_limit
+    (script : List ℕ) (commands : List Command) → left ≡ Some script → IsScript script commands → length script ≤ SCRIPT_LIMIT
     → ¬ source_failed → ¬ sink_failed → IsDoneOrNoMemory status
 
 -- the number that a program ends with

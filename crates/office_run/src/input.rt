@@ -1,6 +1,6 @@
 //! Reading the script.
 ghost use Rattle.std.specs.Prelude.{◌≤◌, length, IfOk, IfErr};
-ghost use Rattle.office_run.specs.ScriptInput.{script_limit, TookAll};
+ghost use Rattle.office_run.specs.ScriptInput.{TookAll};
 ghost use Rattle.office_run.specs.InputFaults.{InputStops, TakesPiece, PieceStops};
 
 use ali_base::{Source, Taken};
@@ -45,7 +45,7 @@ pub(crate) fn read_all<S: Source>(alloc: Global, source: &mut S) -> Result<Vec<u
 
 // Takes one piece more, up to one byte past the limit, and says whether there was one.
 fn take_piece<S: Source>(source: &mut S, bytes: &mut Vec<u8>) -> Result<bool, InputFault>
-    requires { length bytes.old.items ≤ script_limit }
+    requires { length bytes.old.items ≤ SCRIPT_LIMIT }
     ensures more { IfOk result (TakesPiece (S.left source.old) (S.left source.new)
         bytes.old.items bytes.new.items) }
     ensures fault { IfErr result

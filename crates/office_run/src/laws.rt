@@ -4,6 +4,8 @@ ghost use Rattle.command_machine.specs.Commands.{Command};
 ghost use Rattle.office_run.specs.ScriptGrammar.{BeginsWith, IsScript, StopsAfter};
 ghost use Rattle.office_run.specs.ScriptReading.{command_at};
 
+use crate::input::SCRIPT_LIMIT;
+
 /// What is read as the first command is what is spelled, and what is spelled so is read.
 pub fn commands_are_read_as_spelled()
     ensures { (bytes : List ℕ) (command : Command) (rest : List ℕ)
@@ -19,4 +21,9 @@ pub fn scripts_have_one_reading()
         → StopsAfter bytes commands → StopsAfter bytes others → commands ≡ others }
     ensures not_both { (bytes : List ℕ) (commands others : List Command)
         → IsScript bytes commands → StopsAfter bytes others → ⊥ }
+{}
+
+/// A script has at most 67,108,864 bytes.
+pub fn limit_of_scripts()
+    ensures { SCRIPT_LIMIT ≡ 67_108_864 }
 {}

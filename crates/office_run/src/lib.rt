@@ -8,7 +8,7 @@ mod run;
 mod status;
 mod words;
 
-pub use laws::{commands_are_read_as_spelled, scripts_have_one_reading};
+pub use laws::{commands_are_read_as_spelled, limit_of_scripts, scripts_have_one_reading};
 pub use run::office;
 pub use status::Status;
 

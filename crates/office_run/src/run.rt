@@ -1,7 +1,7 @@
 //! The call that does all that the program does.
 ghost use Rattle.std.specs.Prelude.{◌≡◌, ◌↔◌, ◌≤◌, ◌≢◌, true, false, length};
 ghost use Rattle.ali_base.specs.Faults.{Rose};
-ghost use Rattle.office_run.specs.ScriptInput.{script_limit};
+ghost use Rattle.office_run.specs.declared.input.TheConstants.{SCRIPT_LIMIT};
 ghost use Rattle.command_machine.specs.Machine.{start};
 ghost use Rattle.command_machine.specs.MadeReply.{ShowsMachine};
 ghost use Rattle.office_run.specs.Exit.{Exit, Completes};
@@ -69,7 +69,7 @@ fn run<S: Source, K: Sink>(alloc: Global, source: &mut S, sink: &mut K) -> Statu
 
 // Runs a script at an empty desk.
 fn serve<K: Sink>(alloc: Global, script: &[u8], sink: &mut K) -> Status
-    requires { length script.now ≤ script_limit }
+    requires { length script.now ≤ SCRIPT_LIMIT }
     ensures serves { Serves script.now (K.contents sink.old) (K.contents sink.new) result }
     ensures sink_fault { result ≡ Status.SinkFault → Rose (K.faults sink.old) (K.faults sink.new) }
 {
@@ -82,7 +82,7 @@ fn serve<K: Sink>(alloc: Global, script: &[u8], sink: &mut K) -> Status
 // Answers the commands one after the other, and puts each reply whole before the next command.
 fn answer_all<K: Sink>(alloc: Global, desk: &mut Desk, script: &[u8], sink: &mut K) -> Status
     requires empty { ShowsMachine desk.old start }
-    requires limit { length script.now ≤ script_limit }
+    requires limit { length script.now ≤ SCRIPT_LIMIT }
     ensures serves { Serves script.now (K.contents sink.old) (K.contents sink.new) result }
     ensures sink_fault { result ≡ Status.SinkFault → Rose (K.faults sink.old) (K.faults sink.new) }
 {
