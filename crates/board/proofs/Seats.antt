@@ -1,16 +1,15 @@
 -- The steps of a seat whose view is known, and the tokens that they leave.
-use Rattle.std.proofs.Common.{◌≡◌, ℕ, ◌+◌, ◌%◌, ◌^◌, ◌≤◌, List, [], length, Bool, refl, ap, sym, ◌∙◌, subst, arith}
+use Rattle.std.proofs.Common.{◌≡◌, ℕ, ◌+◌, ◌%◌, ◌^◌, List, [], length, Bool, ap, sym, ◌∙◌, subst, arith}
 use mathlib.Core.Option.{none}
 use mathlib.Core.List.{IsPrefix}
 use Rattle.atomic_table.specs.Table.{step, Allows, Splits, Joins}
 use Rattle.ali_base.specs.declared.duty.Duty.{Duty}
 use Rattle.board.specs.declared.front.Front.{Front}
-use Rattle.board.specs.declared.front.TheConstants.{MOST_BOOKED}
 use Rattle.board.specs.declared.view.View.{View}
 use Rattle.board.specs.declared.view.Role.{Role}
 use Rattle.board.specs.declared.view.Role.TheVariants.{Writes, Reads}
 use Rattle.board.specs.FrontWord.{word_of, front_of, front_under, FitsWord, IsNoEarlier}
-use Rattle.board.specs.BoardRule.{At, comparing_view, view_of, opening_view, spent_view, reading, with_beside, Holds, opened, wrote, Saw, saw, met}
+use Rattle.board.specs.BoardRule.{At, comparing_view, view_of, opening_view, spent_view, reading, with_beside, Holds, opened, wrote, saw, met}
 use Rattle.board.specs.Histories.{IsMain, IsPass}
 use Rattle.board.proofs.Words.{front_of_word}
 use Rattle.board.proofs.Steps.{IsAtWork, opens, writes, looks, meets, copies, joins}

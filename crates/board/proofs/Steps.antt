@@ -1,5 +1,5 @@
 -- Each step on the word keeps the rule.
-use Rattle.std.proofs.Common.{◌≡◌, ◌≢◌, ◌⊎◌, ℕ, zero, suc, ◌+◌, ◌%◌, ◌^◌, List, [], ◌∷◌, length, set, Bool, true, false, refl, ap, sym, ◌∙◌, subst, ⊎_elim, inl, inr, arith}
+use Rattle.std.proofs.Common.{◌≡◌, ◌≢◌, ℕ, zero, suc, ◌+◌, ◌%◌, ◌^◌, List, [], ◌∷◌, length, set, Bool, true, false, refl, ap, sym, ◌∙◌, subst, ⊎_elim, inr, arith}
 use Rattle.std.specs.Prelude.{slice_index, if◌then◌else◌}
 use mathlib.Core.Option.{none, some, some-ne-none, some-injective}
 use mathlib.Core.List.{IsPrefix}
@@ -11,7 +11,7 @@ use Rattle.board.specs.declared.view.View.{View}
 use Rattle.board.specs.declared.view.Role.{Role}
 use Rattle.board.specs.declared.view.Role.TheVariants.{Opens, Writes, Reads, Spent}
 use Rattle.board.specs.FrontWord.{word_of, front_of, FitsWord, IsNoEarlier}
-use Rattle.board.specs.BoardRule.{At, comparing_view, view_of, opening_view, spent_view, reading, with_beside, Knows, IsRunning, Holds, opened, saw, met}
+use Rattle.board.specs.BoardRule.{comparing_view, view_of, opening_view, spent_view, reading, with_beside, Knows, IsRunning, Holds, opened, saw, met}
 use Rattle.board.proofs.Words.{front_of_word, word_after, no_earlier_self, no_earlier_trans}
 use Rattle.board.proofs.Prefixes.{prefix_nil, prefix_self, prefix_trans}
 

@@ -1,5 +1,5 @@
 -- A word shows the front that it was made of, and a step on it shows the next one.
-use Rattle.std.proofs.Common.{◌≡◌, ℕ, ◌+◌, ◌*◌, ◌/◌, ◌%◌, ◌^◌, ◌<◌, ◌≤◌, refl, ap, ◌∙◌, arith}
+use Rattle.std.proofs.Common.{◌≡◌, ℕ, ◌+◌, ◌*◌, ◌/◌, ◌%◌, ◌<◌, ◌≤◌, refl, ap, ◌∙◌, arith}
 use Rattle.std.specs.Prelude.{◌-◌, if◌then◌else◌, nat_lt, ◌==◌}
 use Rattle.ali_base.specs.declared.duty.Mode.{Mode}
 use Rattle.ali_base.specs.declared.duty.Mode.TheVariants.{Both, Alone}

@@ -1,6 +1,6 @@
-use Rattle.std.proofs.Common.{rules, ◌≡◌, ◌+◌, ◌<◌, ◌++◌, List, length, ap, sym, subst, arith, length-append}
+use Rattle.std.proofs.Common.{rules, ◌+◌, ◌<◌, ◌++◌, length, ap, sym, subst, arith, length-append}
 use Rattle.board.specs.declared.front.TheConstants.{MOST_BOOKED}
-use Rattle.board.specs.FrontWord.{front_under, word_of, FitsWord}
+use Rattle.board.specs.FrontWord.{front_under, FitsWord}
 use Rattle.board.proofs.Prefixes.{prefix_more}
 use Rattle.board.proofs.Words.{no_earlier_more}
 use Rattle.board.proofs.Seats.{writes_as, wrote_is, main_made}
