@@ -19,6 +19,7 @@ pub use frame::LAST_EPOCH;
 pub use journal::Journal;
 pub use laws::{
     an_image_is_read_one_way, bodies_are_read_as_written, frames_are_known_from_the_image,
+    limit_of_epochs,
 };
 
 #[cfg(test)]
