@@ -10,6 +10,7 @@ ghost use Rattle.duty_register.specs.OpenRegister.{IsOpened, Represents};
 ghost use Rattle.duty_register.specs.declared.register.Register.{Register};
 ghost use Rattle.pair_world.specs.SoundWorld.{AreCounted};
 ghost use Rattle.pair_world.specs.World.{duty_list};
+ghost use Rattle.duty_register.specs.declared.register.TheConstants.{LAST_EPOCH};
 
 use crate::last_duty::LastDuty;
 use crash_disk::Disk;
@@ -65,3 +66,8 @@ pub fn a_change_is_found_again<D: Disk>()
 {
     duties_are_known_from_the_image();
 }
+
+/// Epochs are at most 4,194,303.
+pub fn limit_of_epochs()
+    ensures { LAST_EPOCH ≡ 4_194_303 }
+{}

@@ -19,7 +19,7 @@ pub use faults::{DutyFault, RegisterFault};
 pub use formatting::format_duty;
 pub use laws::{
     a_change_is_found_again, an_image_is_read_one_way, duties_are_counted,
-    duties_are_known_from_the_image, duties_are_read_as_written,
+    duties_are_known_from_the_image, duties_are_read_as_written, limit_of_epochs,
 };
 pub use register::{LAST_EPOCH, Register};
 
