@@ -1,12 +1,10 @@
 -- Each answer on an edit comes exactly where its cause holds.
-use Rattle.std.proofs.Common.{◌≡◌, ◌≢◌, ℕ, ◌+◌, ◌<◌, ◌≤◌, List, Option, Some, None, Result, Ok, Err, ap, sym, ◌∙◌, subst, arith, ◌↔◌}
+use Rattle.std.proofs.Common.{◌≡◌, ℕ, ◌≤◌, List, Option, Some, None, Result, ap, sym, ◌∙◌, subst, arith}
 use Rattle.std.proofs.lemmas.Bool.Decides.{nat_tests}
 use Rattle.std.proofs.lemmas.Slice.Eq.{bytes_eq-Decides}
-use Rattle.sequence_once.specs.SerialStanding.{EditRecord, HasCauses, last_serial, last_digest, serial_standing}
+use Rattle.sequence_once.specs.SerialStanding.{EditRecord, HasCauses, serial_standing}
 use Rattle.sequence_once.specs.declared.standing.Standing.{Standing}
-use Rattle.sequence_once.specs.declared.standing.Standing.TheVariants.{New, Complete}
 use Rattle.sequence_once.specs.declared.standing.CycleFault.{CycleFault}
-use Rattle.sequence_once.specs.declared.standing.CycleFault.TheVariants.{Gap, Differs, TooOld}
 
 first : (serial : ℕ) (digest : List ℕ) → 1 ≤ serial → HasCauses None serial digest (serial_standing None serial digest)
 first serial digest some = record {
