@@ -4,6 +4,7 @@ pub mod Companies
 pub mod Runs
 pub mod Sound
 pub mod Places
+pub mod Points
 pub mod Edits
 pub mod TooOldFiles
 pub mod Laws

@@ -1,7 +1,8 @@
 //! The kept cycles of all companies.
 ghost use Rattle.std.specs.Prelude.{◌≡◌, ◌≢◌, ℕ, List, ◌+◌, ◌-◌, ◌^◌, ◌<◌, ◌≤◌, ◌==◌, [], length, false, find, insert, remove, slice_get, slice_range, option_map, IfOk, OnOk, OnErr, Some, Ok, Err, ◌↔◌, if◌then◌else◌};
+ghost use Rattle.std.specs.List.Sorted.{IsStrictlySortedBy};
 ghost use Rattle.std.specs.Option.{option_copied};
-ghost use Rattle.sequence_once.specs.KeptCycles.{IsSound, OthersStay, of_company, before_company, newest, last_of, is_last_finished, opened, after_open, after_note, codes_of, count_of};
+ghost use Rattle.sequence_once.specs.KeptCycles.{IsSound, OthersStay, of_company, before_company, cycle_order, newest, last_of, is_last_finished, opened, after_open, after_note, codes_of, count_of};
 ghost use Rattle.sequence_once.specs.CycleStanding.{IsTooOld, last_number, oldest_number, is_full, repeated, standing_among, standing_of};
 ghost use Rattle.sequence_once.specs.CycleReaders.{last_shown, record_of};
 ghost use Rattle.sequence_once.specs.declared.standing.Standing.TheVariants.{New};
@@ -67,8 +68,9 @@ impl Cycles {
         ensures too_old { IsTooOld self.now company cycle result }
         ensures sound { IsSound self.now }
     {
-        let full = self.is_full(company);
-        standing_among(self.cycles_of(company), full, self.companies, cycle, digest)
+        let cycles = self.cycles_of(company);
+        let full = self.is_full(cycles);
+        standing_among(cycles, full, self.companies, cycle, digest)
     }
 
     /// Opens the next cycle of a company, whose file has so many lines and this digest; the oldest
@@ -173,8 +175,10 @@ impl Cycles {
         ensures within { result.1 ≤ length self.now.kept }
         ensures sound { IsSound self.now }
     {
-        let from = count_before(&self.kept, company);
-        (from, from + count_own(&self.kept, company))
+        (
+            count_before(&self.kept, company),
+            count_through(&self.kept, company),
+        )
     }
 
     // The cycles of the company, the oldest first.
@@ -186,11 +190,12 @@ impl Cycles {
         part(&self.kept, from, to)
     }
 
-    // Whether the company is new and there are as many as the limit.
-    fn is_full(&self, company: Company) -> bool
-        ensures { result ≡ is_full self.now company }
+    // Whether the company whose cycles these are is new and there are as many as the limit.
+    fn is_full(&self, cycles: &[CycleRecord]) -> bool
+        ensures { (company : List ℕ) → cycles.now ≡ of_company company self.now.kept
+            → result ≡ is_full self.now company }
     {
-        self.cycles_of(company).is_empty() && self.companies <= self.known
+        cycles.is_empty() && self.companies <= self.known
     }
 }
 
@@ -271,20 +276,20 @@ fn repeated(kept: &CycleRecord, digest: &[u8; 32]) -> Result<Standing, CycleFaul
 
 // How many kept cycles are of companies before this one.
 fn count_before(kept: &[CycleRecord], company: Company) -> usize
+    requires { IsStrictlySortedBy cycle_order kept.now }
     ensures { result ≡ length (before_company company kept.now) }
 {
-    kept.iter()
-        .filter(|e| e.company().cmp(&company).is_lt())
-        .count()
+    kept.partition_point(|e| e.company().cmp(&company).is_lt())
 }
 
-// How many kept cycles are of this company.
-fn count_own(kept: &[CycleRecord], company: Company) -> usize
-    ensures { result ≡ length (of_company company kept.now) }
+// How many kept cycles are of this company and of those before it.
+fn count_through(kept: &[CycleRecord], company: Company) -> usize
+    requires { IsStrictlySortedBy cycle_order kept.now }
+    ensures sum { result ≡ length (before_company company kept.now)
+        + length (of_company company kept.now) }
+    ensures within { result ≤ length kept.now }
 {
-    kept.iter()
-        .filter(|e| e.company().cmp(&company).is_eq())
-        .count()
+    kept.partition_point(|e| e.company().cmp(&company).is_le())
 }
 
 // The kept cycles from one place to another.

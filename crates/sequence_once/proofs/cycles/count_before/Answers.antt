@@ -1,0 +1,12 @@
+use Rattle.std.proofs.Common.{rules}
+use Rattle.std.specs.Ordering.{is_lt}
+use Rattle.std.proofs.lemmas.List.Sorted.{IsPartitionPoint-from_clause}
+use Rattle.sequence_once.specs.KeptCycles.{company_order}
+use Rattle.sequence_once.proofs.Points.{point_counts, before_parted}
+use Rattle.sequence_once.proofs.cycles.count_before.Goals as goal
+
+pub returns : goal.returns
+returns c =
+    let parted = before_parted c.args.company _ c.requires in
+    let point = IsPartitionPoint-from_clause (λ k. is_lt (company_order k c.args.company)) _ _ c.partition_point.ensures.partitioned parted (λ a r q k. search rules) in
+    point_counts _ _ _ c.partition_point.ensures.bound point
