@@ -3,7 +3,6 @@ use Rattle.std.proofs.Common.{◌≡◌, ℕ, suc, ◌+◌, ◌-◌, ◌*◌, �
 use Rattle.std.specs.List.{fold}
 use Rattle.std.proofs.lemmas.List.{length-drop}
 use Rattle.std.proofs.lemmas.Bool.Decides.{nat_tests}
-use Rattle.ali_base.specs.Editors.{IsEditor}
 use Rattle.batch_frame.specs.declared.separator.Separator.{Separator}
 use Rattle.batch_frame.specs.declared.separator.Separator.TheVariants.{Bare, Lf, CrLf}
 use Rattle.batch_frame.specs.CarrierFile.{CarrierFile, piece_size}
@@ -30,17 +29,12 @@ use Rattle.batch_desk.specs.declared.job.Job.{Job}
 use Rattle.batch_desk.specs.declared.job.Job.TheVariants.{File, Edit}
 use Rattle.batch_desk.specs.EditJobs.{edit_standing, next_edit, left_edit}
 use Rattle.batch_desk.specs.FileJobs.{file_standing, opening, line_entry, line_entries, lines_from, next_by, left_by}
-use Rattle.batch_desk.specs.Jobs.{IsJob, job_standing, next_of, entries_left}
+use Rattle.batch_desk.specs.Jobs.{IsJob, IsReady, job_standing, next_of, entries_left}
 use Rattle.batch_desk.proofs.KeptStates.{IsKept, kept_after}
 use Rattle.batch_desk.proofs.Edits.{new_edit, not_resumed, after_edit}
 use Rattle.batch_desk.proofs.Files.{as_many, record_width, new_file, line_due, line_within, after_opening, after_line, first_line, no_lines}
 
--- what the next entry of a job rests on: for a file sound cycles, for an edit a place for its editor
-abbrev pub IsReady : State → Job → Type 0
-IsReady s (File bytes) = IsSound s.cycles
-IsReady s (Edit editor serial edit) = (length s.edits ≡ 64) × IsEditor editor
-
--- which every state of a legal history has for each job
+-- what the next entry of a job rests on, every state of a legal history has for each job
 pub ready : (s : State) (job : Job) → IsKept s → IsJob job → IsReady s job
 ready s (File bytes) kept is = kept.cycles
 ready s (Edit editor serial edit) kept is = (kept.editors, is.0)

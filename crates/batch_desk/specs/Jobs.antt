@@ -3,6 +3,7 @@ use Rattle.std.specs.Prelude.{◌≡◌, List, length, None, Result, IsSome}
 use Rattle.sequence_once.specs.KeptCycles.{IsSound, codes_of}
 use Rattle.sequence_once.specs.SerialStanding.{last_edit, last_serial}
 use Rattle.ali_base.specs.Editors.{IsEditor, IsSerial}
+use Rattle.ali_base.specs.declared.editor.TheConstants.{EDITORS}
 use Rattle.batch_frame.specs.FrameFault.{frame_fault, file_of}
 use Rattle.sequence_once.specs.declared.standing.Standing.{Standing}
 use Rattle.sequence_once.specs.declared.standing.CycleFault.{CycleFault}
@@ -44,4 +45,4 @@ IsStillKept s (Edit editor serial edit) = last_serial (last_edit editor s.edits)
 -- what the next entry of a job rests on: for a file sound cycles, for an edit a place for its editor
 abbrev pub IsReady : State → Job → Type 0
 IsReady s (File bytes) = IsSound s.cycles
-IsReady s (Edit editor serial edit) = (length s.edits ≡ 64) × IsEditor editor
+IsReady s (Edit editor serial edit) = (length s.edits ≡ EDITORS) × IsEditor editor

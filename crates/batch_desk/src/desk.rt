@@ -1,15 +1,17 @@
 //! The entries of a job, one after the other, and what is told of it.
 ghost use Rattle.std.specs.Prelude.{◌≡◌, ◌≤◌, length, IfOk, Ok};
 ghost use Rattle.ali_base.specs.Editors.{IsEditor};
+ghost use Rattle.ali_base.specs.declared.editor.TheConstants.{EDITORS};
 ghost use Rattle.ali_base.specs.WholePuts.{Puts};
 ghost use Rattle.batch_frame.specs.declared.fault.TheConstants.{MOST_RECORDS};
 ghost use Rattle.error_files.specs.ErrorFile.{error_file};
 ghost use Rattle.error_files.specs.TextPuts.{PutsText};
 ghost use Rattle.sequence_once.specs.KeptCycles.{IsSound};
 ghost use Rattle.sequence_once.specs.declared.standing.Standing.TheVariants.{Complete};
-ghost use Rattle.sequence_once.specs.SerialStanding.{last_edit};
+ghost use Rattle.sequence_once.specs.SerialStanding.{AreKeptEdits, last_edit};
 ghost use Rattle.office_state.specs.Due.{IsDue};
 ghost use Rattle.batch_desk.specs.FileJobs.{file_standing, opening, line_entry, is_other_count, with_count, standing_by, next_by};
+ghost use Rattle.batch_desk.specs.EditJobs.{edit_standing};
 ghost use Rattle.batch_desk.specs.Jobs.{job_standing, next_of, IsReady};
 ghost use Rattle.batch_desk.specs.JobReplies.{read_of, done_of, edit_done, kept_codes, next_line, sized, job_reply};
 
@@ -144,6 +146,25 @@ fn next_of_file(office: &Office, job: &FileJob) -> Result<Entry, DueFault>
     }
 }
 
+// What an edit is to the office. Its digest is taken only where its serial is its editor's last one:
+// no other standing depends on it.
+pub(crate) fn standing_of_edit(
+    office: &Office,
+    editor: Editor,
+    serial: Serial,
+    edit: &Edit,
+) -> Result<Standing, CycleFault>
+    ensures exact { result ≡ edit_standing office.now.state editor serial edit.now }
+    ensures sound { AreKeptEdits office.now.state.edits }
+{
+    match office.edit_kept(editor) {
+        Some((last, _)) if last == serial.number() => {
+            office.edit_standing(editor, serial, &edit.digest())
+        }
+        _ => office.edit_standing(editor, serial, &[0; 32]),
+    }
+}
+
 // The entry of an edit that may be booked next.
 fn next_of_edit(
     office: &Office,
@@ -153,10 +174,10 @@ fn next_of_edit(
 ) -> Result<Entry, DueFault>
     ensures exact { result ≡ next_of office.now.state (Job.Edit editor serial edit.now) }
     ensures due { IfOk result (λ e. IsDue office.now.state e) }
-    ensures place { length office.now.state.edits ≡ 64 }
+    ensures place { length office.now.state.edits ≡ EDITORS }
     ensures editor { IsEditor editor }
 {
-    match office.edit_standing(editor, serial, &edit.digest()) {
+    match standing_of_edit(office, editor, serial, edit) {
         Ok(Standing::New) => Ok(Entry::Edit {
             editor,
             serial,

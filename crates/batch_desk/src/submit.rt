@@ -7,7 +7,7 @@ ghost use Rattle.batch_desk.specs.FileJobs.{file_standing};
 ghost use Rattle.batch_desk.specs.SubmitFaults.{IsJobOf, IsSubmitFault, IsEditFault};
 ghost use Rattle.batch_desk.specs.EditJobs.{edit_standing};
 
-use crate::desk::view_standing;
+use crate::desk::{standing_of_edit, view_standing};
 use crate::job::{FileJob, Job};
 use ali_base::{Editor, NoMemory, Serial};
 use batch_frame::{FileFrame, FrameFault, read_file};
@@ -82,7 +82,7 @@ pub fn submit_edit(
         × IsOk (edit_standing office.now.state editor serial edit))
         (λ fault. IsEditFault (edit_standing office.now.state editor serial edit) fault) }
 {
-    match office.edit_standing(editor, serial, &edit.digest()) {
+    match standing_of_edit(office, editor, serial, &edit) {
         Ok(_) => Ok(Job::Edit {
             editor,
             serial,
