@@ -1,5 +1,5 @@
 -- When each answer of a format comes.
-use Rattle.std.specs.Prelude.{◌≡◌, ℕ, ◌<◌, List, [], ◌∷◌, length, Result, Ok, Err, Some}
+use Rattle.std.specs.Prelude.{◌≡◌, ◌≢◌, ℕ, ◌<◌, List, [], ◌∷◌, length, Result, Ok, Err, Some}
 use Rattle.ali_base.specs.Faults.{Rose}
 use Rattle.commit_log.specs.declared.formatting.FormatFault.{FormatFault}
 use Rattle.commit_log.specs.declared.formatting.FormatFault.TheVariants.{DiskFault, NotEmpty}
@@ -8,8 +8,9 @@ use Rattle.crash_disk.specs.DiskState.{DiskState}
 use Rattle.ali_base.specs.Duties.{first_duty}
 use Rattle.duty_register.specs.DutyState.{KeepsDuties}
 
--- An empty disk then stands for the first duty alone, all of it synced. One that is not empty stays as it is, and its length is told.
+-- An empty disk then stands for the first duty alone, all of it synced. One that is not empty stays as it is, and its length is told. A failure comes only where the count of faults rose, and leaves a disk that is not empty as it was.
 abbrev pub FormatAnswers : DiskState → DiskState → Result (Unit {0}) FormatFault → Type 0
 FormatAnswers old new (Ok x) = (image : List ℕ) → old.content ≡ Some image → (image ≡ []) × KeepsDuties (first_duty ∷ []) new
-FormatAnswers old new (Err DiskFault) = Rose old.faults new.faults
+FormatAnswers old new (Err DiskFault) =
+    Rose old.faults new.faults × ((image : List ℕ) → old.content ≡ Some image → image ≢ [] → Stays old new)
 FormatAnswers old new (Err (NotEmpty len)) = (0 < len) × Stays old new × ((image : List ℕ) → old.content ≡ Some image → len ≡ length image)
