@@ -1,11 +1,10 @@
 -- A file that is complete in the state of a legal history is complete, with the same codes, for as long as its cycle is kept.
-use Rattle.std.proofs.Common.{◌≡◌, ℕ, true, List, [], ◌∷◌, ◌++◌, Option, Some, None, IsSome, Ok, refl, ap, sym, subst, ◌⊎◌, inl, inr, option_map}
+use Rattle.std.proofs.Common.{◌≡◌, ℕ, true, List, [], ◌∷◌, ◌++◌, IsSome, Ok, sym, subst, ◌⊎◌, inl, inr}
 use Rattle.std.specs.List.{fold}
 use Rattle.sequence_once.specs.KeptCycles.{CycleRecord, IsSound, of_company, last_of, is_finished, codes_of}
 use Rattle.sequence_once.specs.CycleStanding.{standing_of}
 use Rattle.sequence_once.specs.declared.standing.Standing.TheVariants.{Complete}
 use Rattle.sequence_once.proofs.FinishedFiles.{Keeps, finished_file, keeps_opened, keeps_noted, still_complete}
-use Rattle.sequence_once.proofs.KeptFiles.{kept_file}
 use Rattle.office_entry.specs.declared.entry.Entry.{Entry}
 use Rattle.office_entry.specs.declared.entry.Entry.TheVariants.{Open, Line, Edit}
 use Rattle.office_state.specs.declared.limits.Limits.{Limits}
@@ -63,17 +62,3 @@ stays_complete limits history more company cycle digest legal complete some =
     let due = due_rest (empty_state limits) history more legal in
     let there = subst (λ (s : State). IsSome (codes_of company cycle s.cycles.kept)) e some in
     subst (λ (s : State). StaysComplete old s company cycle digest) (sym e) (stays old more sound due company cycle digest complete there)
-
--- which it is where the file is complete again
-pub kept_codes : (limits : Limits) (history more : List Entry) (company : List ℕ) (cycle : ℕ) (digest : List ℕ) → IsLegal limits (history ++ more)
-    → let old = state limits history in let new = state limits (history ++ more) in standing_of old.cycles company cycle digest ≡ Ok Complete → standing_of new.cycles company cycle digest ≡ Ok Complete
-    → codes_of company cycle new.cycles.kept ≡ codes_of company cycle old.cycles.kept
-kept_codes limits history more company cycle digest legal first second =
-    let new = state limits (history ++ more) in
-    let file = kept_file new.cycles company cycle digest Complete (λ h. cc) second in
-    let codes = ap (option_map (λ (j : CycleRecord). j.codes)) file.there in
-    (stays_complete limits history more company cycle digest legal first (is_some (codes_of company cycle new.cycles.kept) _ codes)).1
-  where
-    is_some : (o : Option (List ℕ)) (codes : List ℕ) → o ≡ Some codes → IsSome o
-    is_some None codes h = absurd (cc h)
-    is_some (Some x) codes h = refl

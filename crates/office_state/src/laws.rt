@@ -1,10 +1,8 @@
 //! Laws of the booked history.
 ghost use Rattle.std.specs.Prelude.{◌≡◌, ℕ, ◌<◌, ◌≤◌, List, [], ◌∷◌, ◌++◌, length, AllPairs, Ok, Some, None, IsSome, is_none};
 ghost use Rattle.std.specs.FinMap.{get, len};
-ghost use Rattle.ali_record.specs.Layout.{byte_of, field_of};
-ghost use Rattle.ali_record.specs.declared.field.Field.TheVariants.{Function, TelephoneNumber};
-ghost use Rattle.ali_record.specs.Functions.{function_of};
-ghost use Rattle.ali_record.specs.declared.function.Function.TheVariants.{Migrate};
+ghost use Rattle.ali_record.specs.Layout.{field_of};
+ghost use Rattle.ali_record.specs.declared.field.Field.TheVariants.{TelephoneNumber};
 ghost use Rattle.number_life.specs.declared.row.Row.{Row};
 ghost use Rattle.number_life.specs.NumberLife.{owner};
 ghost use Rattle.msag_ranges.specs.StreetGuide.{range_of};
@@ -12,6 +10,7 @@ ghost use Rattle.sequence_once.specs.KeptCycles.{codes_of, known_companies};
 ghost use Rattle.sequence_once.specs.CycleStanding.{standing_of};
 ghost use Rattle.sequence_once.specs.declared.standing.Standing.TheVariants.{Complete};
 ghost use Rattle.msag_edits.specs.GuideSoundness.{AreSound};
+ghost use Rattle.line_booking.specs.LineLaws.{IsMigrated};
 ghost use Rattle.office_entry.specs.declared.entry.Entry.{Entry};
 ghost use Rattle.office_entry.specs.declared.edit.Edit.{Edit as GuideEdit};
 ghost use Rattle.office_entry.specs.declared.entry.Entry.TheVariants.{Line, Edit};
@@ -26,17 +25,6 @@ ghost use Rattle.office_state.specs.Verdict.{after};
 pub fn bookings_are_once()
     ensures { (limits : Limits) (history : List Entry) → IsLegal limits history
         → AllPairs (λ e f. Repeats e f → ⊥) history }
-{}
-
-/// The codes of a finished cycle are the same as long as it is kept, whatever is booked after it.
-pub fn finished_cycles_keep_their_codes()
-    ensures { (limits : Limits) (history more : List Entry)
-        (company : List ℕ) (cycle : ℕ) (digest : List ℕ)
-        → IsLegal limits (history ++ more)
-        → standing_of (state limits history).cycles company cycle digest ≡ Ok Complete
-        → standing_of (state limits (history ++ more)).cycles company cycle digest ≡ Ok Complete
-        → codes_of company cycle (state limits (history ++ more)).cycles.kept
-        ≡ codes_of company cycle (state limits history).cycles.kept }
 {}
 
 /// A file that is complete stays complete, with the same codes, for as long as its cycle is kept.
@@ -67,8 +55,7 @@ pub fn owners_change_by_migrate()
         → IsLegal limits history → get (state limits history).table tn ≡ Some old
         → get (state limits (history ++ Line company cycle line bytes ∷ [])).table tn ≡ Some new
         → (owner new ≡ owner old → ⊥)
-        → IsSome old.unlocked × (function_of (byte_of bytes Function) ≡ Migrate)
-        × (owner new ≡ company) × (new.unlocked ≡ None) }
+        → IsMigrated company bytes old new }
 {}
 
 /// In the state of a legal history guide and table are sound together.

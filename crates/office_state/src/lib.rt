@@ -15,10 +15,10 @@ mod verdict;
 pub use apply_fault::ApplyFault;
 pub use due_fault::DueFault;
 pub use laws::{
-    bookings_are_once, edits_keep_owners, finished_cycles_keep_their_codes,
-    finished_cycles_stay_complete, ids_are_never_used_again, legal_histories_are_sound,
-    limits_are_kept, lines_change_one_number, locked_rows_are_their_owners,
-    owners_change_by_migrate, owners_unlock_their_rows, rows_have_their_numbers,
+    bookings_are_once, edits_keep_owners, finished_cycles_stay_complete, ids_are_never_used_again,
+    legal_histories_are_sound, limits_are_kept, lines_change_one_number,
+    locked_rows_are_their_owners, owners_change_by_migrate, owners_unlock_their_rows,
+    rows_have_their_numbers,
 };
 pub use limits::Limits;
 pub use number_table::RowsInOrder;

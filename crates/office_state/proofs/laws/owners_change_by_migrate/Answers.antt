@@ -14,5 +14,4 @@ unfolding after
 returns c = λ limits history tn old new company cycle line bytes legal held then differ.
     let before = state limits history in
     let later = subst (λ (s : State). get s.table tn ≡ Some new) (state_more limits history (Line company cycle line bytes ∷ [])) then in
-    let moved = owner_changes before.guide.ranges before.table before.most_numbers company bytes tn old held new (sound_legal limits history legal).digits later differ in
-    (moved.unlocked, moved.migrates, moved.new_owner, moved.locked)
+    owner_changes before.guide.ranges before.table before.most_numbers company bytes tn old held new (sound_legal limits history legal).digits later differ
