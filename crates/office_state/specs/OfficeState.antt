@@ -32,6 +32,10 @@ empty_state limits = record {
   edits = no_edits;
 }
 
+-- the limits of the office that the program runs
+abbrev pub office_limits : Limits
+office_limits = record { companies = 64; numbers = 300_000; ranges = 100_000 }
+
 -- the limits of a state
 abbrev pub limits_of : State → Limits
 limits_of s = record { companies = s.cycles.limit; numbers = s.most_numbers; ranges = s.guide.limit }

@@ -7,6 +7,7 @@ ghost use Rattle.sequence_once.specs.SerialStanding.{last_edit, serial_standing}
 ghost use Rattle.sequence_once.specs.declared.standing.Standing.TheVariants.{New};
 ghost use Rattle.office_entry.specs.EditBytes.{edit_digest};
 ghost use Rattle.office_entry.specs.declared.entry.Entry.{Entry as AnyEntry};
+ghost use Rattle.office_state.specs.declared.office.TheConstants.{MOST_ENTRIES};
 ghost use Rattle.office_state.specs.Due.{IsDue};
 ghost use Rattle.office_state.specs.Refusals.{IsRefused};
 ghost use Rattle.office_state.specs.Verdict.{code_in, verdict, after};
@@ -24,13 +25,13 @@ use office_entry::{Edit, Entry};
 
 impl Office {
     /// Books an entry: it is judged, and carried out where it is accepted. It asks that fewer than
-    /// 4,000,000,000 entries were applied.
+    /// `MOST_ENTRIES` entries were applied.
     ///
     /// # Errors
     ///
     /// `NotDue` with the fault of `due`, or `NoMemory`. Either leaves the office as it was.
     pub fn apply(&mut self, e: &Entry) -> Result<Verdict, ApplyFault>
-        requires { self.old.entries < 4_000_000_000 }
+        requires { self.old.entries < MOST_ENTRIES }
         ensures due { OnOk result (IsDue self.old.state e.now) }
         ensures verdict { IfOk result (λ v. v ≡ verdict self.old.state e.now) }
         ensures state { OnOk result (self.new.state ≡ after self.old.state e.now) }
@@ -69,7 +70,7 @@ impl Office {
         count: u32,
         digest: &[u8; 32],
     ) -> Result<Verdict, ApplyFault>
-        requires { self.old.entries < 4_000_000_000 }
+        requires { self.old.entries < MOST_ENTRIES }
         ensures { (day : CivilDay)
             → IsAnswer self.old self.new (AnyEntry.Open company cycle count day digest.now) result }
     {
@@ -90,7 +91,7 @@ impl Office {
         line: u32,
         bytes: &[u8; 512],
     ) -> Result<Verdict, ApplyFault>
-        requires { self.old.entries < 4_000_000_000 }
+        requires { self.old.entries < MOST_ENTRIES }
         ensures { IsAnswer self.old self.new (AnyEntry.Line company cycle line bytes.now) result }
     {
         if let Err(fault) = line_due(self.due_line(company), cycle.number(), line) {
@@ -109,7 +110,7 @@ impl Office {
         serial: Serial,
         edit: &Edit,
     ) -> Result<Verdict, ApplyFault>
-        requires { self.old.entries < 4_000_000_000 }
+        requires { self.old.entries < MOST_ENTRIES }
         ensures { IsAnswer self.old self.new (AnyEntry.Edit editor serial edit.now) result }
     {
         let digest = edit.digest();
@@ -132,7 +133,7 @@ impl Office {
         digest: &[u8; 32],
     ) -> Result<(), NoMemory>
         requires new { standing_of self.old.state.cycles company cycle digest.now ≡ Ok New }
-        requires count { self.old.entries < 4_000_000_000 }
+        requires count { self.old.entries < MOST_ENTRIES }
         ensures booked { OnOk result ((day : CivilDay)
             → self.new ≡ with_entry self.old (AnyEntry.Open company cycle count day digest.now)) }
         ensures err { OnErr result (self.new ≡ self.old) }
@@ -147,7 +148,7 @@ impl Office {
     #[tactic(auto, unfolding(crate::specs::Verdict::after))]
     fn note_line(&mut self, company: Company, bytes: &[u8; 512]) -> Result<u16, NoMemory>
         requires next { is_last_finished (last_of company self.old.state.cycles.kept) ≡ false }
-        requires count { self.old.entries < 4_000_000_000 }
+        requires count { self.old.entries < MOST_ENTRIES }
         ensures code { IfOk result (λ code. code ≡ code_in self.old.state company bytes.now) }
         ensures booked { OnOk result ((cycle line : ℕ)
             → self.new ≡ with_entry self.old (AnyEntry.Line company cycle line bytes.now)) }
@@ -177,7 +178,7 @@ impl Office {
         requires digest { digest.now ≡ edit_digest edit.now }
         requires new { let last = last_edit editor self.old.state.edits in
             serial_standing last serial digest.now ≡ Ok New }
-        requires count { self.old.entries < 4_000_000_000 }
+        requires count { self.old.entries < MOST_ENTRIES }
         ensures verdict { IfOk result (λ v.
             v ≡ verdict self.old.state (AnyEntry.Edit editor serial edit.now)) }
         ensures booked { OnOk result

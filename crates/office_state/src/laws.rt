@@ -20,6 +20,8 @@ ghost use Rattle.office_state.specs.OfficeState.{State};
 ghost use Rattle.office_state.specs.Unlocks.{IsOwnersUnlock};
 ghost use Rattle.office_state.specs.Verdict.{after};
 
+use crate::office::MOST_ENTRIES;
+
 /// In a legal history no cycle of a company is opened twice, no line of a cycle is booked twice, and no
 /// serial of an editor is used twice.
 pub fn bookings_are_once()
@@ -127,4 +129,9 @@ pub fn ids_are_never_used_again()
         → id < (state limits history).guide.next
         → range_of (state limits history).guide.ranges id ≡ None
         → range_of (state limits (history ++ more)).guide.ranges id ≡ None }
+{}
+
+/// An office applies at most 4,000,000,000 entries.
+pub fn limit_of_entries()
+    ensures { MOST_ENTRIES ≡ 4_000_000_000 }
 {}

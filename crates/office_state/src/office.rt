@@ -11,6 +11,9 @@ use sequence_once::{Cycles, Serials};
 use std::alloc::Global;
 use std::marker::Model;
 
+/// The most entries that are applied, the refused ones too.
+pub const MOST_ENTRIES: u32 = 4_000_000_000;
+
 /// The state after a list of entries.
 #[derive(Drop)]
 pub struct Office {
