@@ -10,6 +10,7 @@ use Rattle.std.proofs.lemmas.Option.{cond_some}
 use Rattle.std.proofs.lemmas.Slice.Eq.{bytes_eq-Decides}
 use Rattle.std.proofs.lemmas.List.Elements.{recursion_from_All, All-from_recursion}
 use Rattle.ali_base.specs.TelephoneNumber.{tn_of, IsTn, IsDigit}
+use Rattle.command_machine.specs.declared.command.TheConstants.{POSITIONS}
 use Rattle.command_machine.specs.Commands.{IsAsk}
 use Rattle.command_machine.specs.declared.command.Ask.{Ask as AnyAsk}
 use Rattle.command_machine.specs.declared.command_line.CommandLine.{CommandLine}
@@ -70,7 +71,7 @@ ask_of-text ask h =
     let since = ask.since in
     let ten : tn_of tn ≡ Some tn = tn_of-number tn h.number in
     let low : nat_le 1 p ≡ true = grind (arith, nat_tests, h.low) in
-    let high : nat_le p 64 ≡ true = grind (arith, nat_tests, h.high) in
+    let high : nat_le p POSITIONS ≡ true = grind (arith, nat_tests, h.high) in
     rw (
       split_again 32 (codes "a") (decimal p ++ 32 ∷ (tn ++ 32 ∷ decimal since)) (refl, tt),
       split_again 32 (decimal p) (tn ++ 32 ∷ decimal since) (decimal_clear 32 refl p (omega (arith, h.high))),
@@ -109,8 +110,8 @@ ask-ask_of words line h =
     let t = bind_ok (tn_of e.0.0) _ line n.2 in
     let s = bind_ok (number_of e.0.1) _ line t.2 in
     let found : AnyAsk = record { position = n.0; tn = t.0; since = s.0 } in
-    let w = cond_some (bytes_eq b.0.0 (codes "a") && nat_le 1 n.0 && nat_le n.0 64) (Ask found) line s.2 in
-    let high = and_parts (bytes_eq b.0.0 (codes "a") && nat_le 1 n.0) (nat_le n.0 64) w.0 in
+    let w = cond_some (bytes_eq b.0.0 (codes "a") && nat_le 1 n.0 && nat_le n.0 POSITIONS) (Ask found) line s.2 in
+    let high = and_parts (bytes_eq b.0.0 (codes "a") && nat_le 1 n.0) (nat_le n.0 POSITIONS) w.0 in
     let low = and_parts (bytes_eq b.0.0 (codes "a")) (nat_le 1 n.0) high.0 in
     let p = decimal-number_of d.0.0 n.0 n.1 in
     let tn = tn_is e.0.0 t.0 t.1 in

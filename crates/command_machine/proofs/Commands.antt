@@ -1,12 +1,13 @@
 -- A command at a desk that shows a machine.
 use Rattle.std.proofs.Common.{◌≡◌, ◌++◌, length, ap, ◌∙◌, subst}
+use Rattle.office_state.specs.OfficeState.{office_limits}
 use Rattle.office_state.specs.History.{Represents}
 use Rattle.command_machine.specs.declared.desk.Desk.{Desk}
 use Rattle.command_machine.specs.declared.reply.Reply.{Reply}
 use Rattle.command_machine.specs.Commands.{Command}
 use Rattle.command_machine.specs.Rows.{Row, reply_in, event_in}
 use Rattle.command_machine.specs.Replies.{Reply as AnyReply}
-use Rattle.command_machine.specs.Machine.{Machine, office_limits, state_of, Event, entries_of, job_after}
+use Rattle.command_machine.specs.Machine.{Machine, state_of, Event, entries_of, job_after}
 use Rattle.command_machine.specs.CommandRows.{command_row, row_of, reply, after}
 use Rattle.command_machine.specs.MadeReply.{ShowsMachine, left_of, row_at, reply_of, CarriesOut}
 use Rattle.command_machine.proofs.Machines.{left}

@@ -9,7 +9,7 @@ use Rattle.sequence_once.specs.declared.standing.CycleFault.{CycleFault}
 use Rattle.office_entry.specs.declared.entry.Entry.{Entry}
 use Rattle.office_entry.specs.declared.entry.Entry.TheVariants as entry
 use Rattle.office_state.specs.declared.due_fault.DueFault.{DueFault}
-use Rattle.office_state.specs.OfficeState.{State, empty_state}
+use Rattle.office_state.specs.OfficeState.{State, empty_state, office_limits}
 use Rattle.office_state.specs.Verdict.{after as booked_after}
 use Rattle.office_state.specs.History.{AreDue, IsLegal, state}
 use Rattle.office_state.proofs.Histories.{due_both, due_first, state_more}
@@ -26,7 +26,7 @@ use Rattle.command_machine.specs.Commands.{Command, Ask, File, Edit, Next, Batch
 use Rattle.command_machine.specs.Rows.{unless_refused, reply_in, event_in}
 use Rattle.command_machine.specs.Refusals.{ahead, framing, standing_refusal}
 use Rattle.command_machine.specs.Replies.{Reply, Finished, reply_text}
-use Rattle.command_machine.specs.Machine.{Machine, start, office_limits, state_of, Event, Answers, Reads, Books, entries_of, after_event}
+use Rattle.command_machine.specs.Machine.{Machine, start, state_of, Event, Answers, Reads, Books, entries_of, after_event}
 use Rattle.command_machine.specs.Machine.{job_after as job_with}
 use Rattle.command_machine.specs.CommandRows.{refused, read_row, book_row, next_row, batch_row, row_of, after, reply, replies_text, after_all}
 use Rattle.command_machine.specs.MadeReply.{left_of}

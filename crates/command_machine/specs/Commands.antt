@@ -4,7 +4,7 @@ use Rattle.ali_base.specs.Editors.{IsEditor, IsSerial}
 use Rattle.ali_base.specs.TelephoneNumber.{IsTn}
 use Rattle.office_entry.specs.declared.edit.Edit.{Edit as GuideEdit}
 use Rattle.office_entry.specs.Edits.{IsEdit}
-use Rattle.command_machine.specs.declared.command.TheConstants.{FILE_LIMIT}
+use Rattle.command_machine.specs.declared.command.TheConstants.{FILE_LIMIT, POSITIONS}
 
 -- a command: the request of a position, which asks for a number after at least so many entries; a carrier's file; an editor's edit of the street guide; the next entry of the job, which is the file or edit that was read last; and all that are left of it
 pub data Command : Type 0 where
@@ -14,10 +14,10 @@ pub data Command : Type 0 where
   Next : Command
   Batch : Command
 
--- a position is 1 to 64
+-- a position is 1 to the number of positions
 pub record IsAsk (position : ℕ) (tn : List ℕ) (since : ℕ) : Type 0 where
   pub low : 1 ≤ position
-  pub high : position ≤ 64
+  pub high : position ≤ POSITIONS
   pub number : IsTn tn
   pub small : since < 2 ^ 32
 

@@ -6,7 +6,7 @@ use Rattle.ali_base.specs.TelephoneNumber.{tn_of}
 use Rattle.ali_base.specs.declared.editor.TheConstants.{EDITORS, LAST_SERIAL}
 use Rattle.text_line.specs.WordReading.{number_of, split_once}
 use Rattle.office_entry.specs.EditReading.{edit_of_text}
-use Rattle.command_machine.specs.declared.command.TheConstants.{FILE_LIMIT}
+use Rattle.command_machine.specs.declared.command.TheConstants.{FILE_LIMIT, POSITIONS}
 use Rattle.command_machine.specs.declared.command_line.CommandLine.{CommandLine}
 use Rattle.command_machine.specs.declared.command_line.CommandLine.TheVariants.{Ask, File, Edit, Next, Batch}
 
@@ -19,7 +19,7 @@ ask_of words = do
   p ← number_of position.0
   tn ← tn_of number.0
   since ← number_of number.1
-  when (bytes_eq node.0 (codes "a") && nat_le 1 p && nat_le p 64) (Ask (record { position = p; tn = tn; since = since }))
+  when (bytes_eq node.0 (codes "a") && nat_le 1 p && nat_le p POSITIONS) (Ask (record { position = p; tn = tn; since = since }))
 
 -- behind `FILE`: `length`
 unfoldable pub file_of : List ℕ → Option CommandLine

@@ -1,14 +1,9 @@
 -- The machine: the booked history and the job; and what its events do.
 use Rattle.std.specs.Prelude.{List, [], ◌++◌, Option, Some, None}
 use Rattle.office_entry.specs.declared.entry.Entry.{Entry}
-use Rattle.office_state.specs.declared.limits.Limits.{Limits}
-use Rattle.office_state.specs.OfficeState.{State}
+use Rattle.office_state.specs.OfficeState.{State, office_limits}
 use Rattle.office_state.specs.History.{state}
 use Rattle.batch_desk.specs.declared.job.Job.{Job}
-
--- the limits of the office that the program runs
-abbrev pub office_limits : Limits
-office_limits = record { companies = 64; numbers = 300_000; ranges = 100_000 }
 
 -- the booked history, and the job: the file or the edit that was read last
 pub record Machine : Type 0 where

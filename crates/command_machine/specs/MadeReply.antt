@@ -5,14 +5,15 @@ use Rattle.sequence_once.specs.declared.standing.Standing.{Standing}
 use Rattle.sequence_once.specs.declared.standing.Standing.TheVariants as standing
 use Rattle.sequence_once.specs.declared.standing.CycleFault.{CycleFault}
 use Rattle.office_entry.specs.declared.entry.Entry.{Entry}
-use Rattle.office_state.specs.OfficeState.{State}
+use Rattle.office_state.specs.declared.office.TheConstants.{MOST_ENTRIES}
+use Rattle.office_state.specs.OfficeState.{State, office_limits}
 use Rattle.office_state.specs.History.{Represents, KeepsHistory}
 use Rattle.batch_desk.specs.declared.job.Job.{Job}
 use Rattle.batch_desk.specs.declared.job.Job.TheVariants as jobs
 use Rattle.batch_desk.specs.Jobs.{job_standing, entries_left}
 use Rattle.command_machine.specs.Commands as commands
 use Rattle.command_machine.specs.Rows.{Row, reply_in, event_in}
-use Rattle.command_machine.specs.Machine.{Machine, office_limits, Event, entries_of, job_after}
+use Rattle.command_machine.specs.Machine.{Machine, Event, entries_of, job_after}
 use Rattle.command_machine.specs.CommandRows.{command_row}
 use Rattle.command_machine.specs.Replies as replies
 use Rattle.command_machine.specs.declared.command.Command.{Command}
@@ -43,7 +44,7 @@ left_of s (Some job) = entries_left s job
 
 -- all that is left of the job may be booked
 abbrev pub HasRoom : Desk → Type 0
-HasRoom desk = desk.office.entries + length (left_of desk.office.state desk.job) < 4_000_000_000
+HasRoom desk = desk.office.entries + length (left_of desk.office.state desk.job) < MOST_ENTRIES
 
 -- the row of a command at a desk
 abbrev pub row_at : Desk → commands.Command → Row replies.Reply Event

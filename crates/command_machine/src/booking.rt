@@ -2,6 +2,7 @@
 ghost use Rattle.std.specs.Prelude.{◌≡◌, ℕ, ◌+◌, ◌<◌, List, ◌∷◌, [], length, fold, None, Some, Option, Result, Ok, Err, IfOk, OnOk};
 ghost use Rattle.sequence_once.specs.declared.standing.Standing.{Standing as AnyStanding};
 ghost use Rattle.sequence_once.specs.declared.standing.CycleFault.{CycleFault as AnyFault};
+ghost use Rattle.office_state.specs.declared.office.TheConstants.{MOST_ENTRIES};
 ghost use Rattle.office_state.specs.Due.{IsDue, standing_fault};
 ghost use Rattle.office_state.specs.Verdict.{verdict, after};
 ghost use Rattle.office_state.specs.History.{KeepsHistory};
@@ -25,7 +26,7 @@ use sequence_once::CycleFault;
 // Books an entry that may be booked next.
 fn book(office: &mut Office, entry: &Entry) -> Result<Verdict, NoMemory>
     requires due { IsDue office.old.state entry.now }
-    requires room { office.old.entries < 4_000_000_000 }
+    requires room { office.old.entries < MOST_ENTRIES }
     ensures verdict { IfOk result (λ v. v ≡ verdict office.old.state entry.now) }
     ensures state { OnOk result (office.new.state ≡ after office.old.state entry.now) }
     ensures entries { OnOk result (office.new.entries ≡ office.old.entries + 1) }
@@ -40,7 +41,7 @@ fn book(office: &mut Office, entry: &Entry) -> Result<Verdict, NoMemory>
 
 /// Books the next entry of a job.
 pub(crate) fn next(office: &mut Office, job: &Job) -> Result<Reply, NoMemory>
-    requires { office.old.entries < 4_000_000_000 }
+    requires { office.old.entries < MOST_ENTRIES }
     ensures told { IfOk result (λ r. reply_of office.new.state (Some job.now) r
         ≡ reply_in (next_row office.old.state office.old.entries (Some job.now))) }
     ensures history { let row = next_row office.old.state office.old.entries (Some job.now) in
@@ -74,7 +75,7 @@ fn none_next(office: &Office, job: &Job, fault: DueFault) -> Reply
 
 /// Books all entries that are left of a job.
 pub(crate) fn batch(office: &mut Office, job: &Job) -> Result<Reply, NoMemory>
-    requires { office.old.entries + length (entries_left office.old.state job.now) < 4_000_000_000 }
+    requires { office.old.entries + length (entries_left office.old.state job.now) < MOST_ENTRIES }
     ensures told { IfOk result (λ r. reply_of office.new.state (Some job.now) r
         ≡ reply_in (batch_row office.old.state (Some job.now))) }
     ensures history { let row = batch_row office.old.state (Some job.now) in
@@ -89,7 +90,7 @@ pub(crate) fn batch(office: &mut Office, job: &Job) -> Result<Reply, NoMemory>
 
 // Books all entries that are left of a job, and answers why there is no next one.
 fn book_left(office: &mut Office, job: &Job) -> Result<DueFault, NoMemory>
-    requires { office.old.entries + length (entries_left office.old.state job.now) < 4_000_000_000 }
+    requires { office.old.entries + length (entries_left office.old.state job.now) < MOST_ENTRIES }
     ensures fault { IfOk result (λ fault. next_of office.new.state job.now ≡ Err fault) }
     ensures readable { let standing = job_standing office.old.state job.now in
         OnOk result (StaysReadable standing (job_standing office.new.state job.now)) }

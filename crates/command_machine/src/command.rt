@@ -5,10 +5,13 @@ use office_entry::Edit;
 /// The most bytes of a carrier's file.
 pub const FILE_LIMIT: u32 = 16_777_216;
 
+/// How many positions ask: 1 to this.
+pub const POSITIONS: u32 = 64;
+
 /// The request of a position.
 #[derive(Clone, Copy, Debug, PartialEq, Eq)]
 pub struct Ask {
-    /// The position that asks, 1 to 64.
+    /// The position that asks, 1 to `POSITIONS`.
     pub position: u32,
     pub tn: Tn,
     /// The answer is to be after at least so many entries.

@@ -2,7 +2,7 @@
 ghost use Rattle.std.specs.Prelude.{◌≡◌, ◌<◌, length, IfSome};
 ghost use Rattle.command_machine.specs.LineReading.{ask_of, file_of, edit_of, word_alone, line_of};
 
-use crate::command::{Ask, FILE_LIMIT};
+use crate::command::{Ask, FILE_LIMIT, POSITIONS};
 use ali_base::{EDITORS, Editor, Serial, Tn};
 use office_entry::Edit;
 use text_line::{number_of, split_once};
@@ -74,7 +74,7 @@ fn ask_of(words: &[u8]) -> Option<CommandLine>
     let position = number_of(position)?;
     let tn = Tn::read(tn)?;
     let since = number_of(since)?;
-    if node != b"a".as_slice() || position < 1 || position > 64 {
+    if node != b"a".as_slice() || position < 1 || position > POSITIONS {
         return None;
     }
     Some(CommandLine::Ask(Ask {

@@ -2,6 +2,7 @@
 ghost use Rattle.std.specs.Prelude.{◌≡◌, ◌<◌, None, Some, IfOk};
 ghost use Rattle.ali_base.specs.WholePuts.{Puts};
 ghost use Rattle.batch_frame.specs.FrameFault.{frame_fault};
+ghost use Rattle.office_state.specs.declared.office.TheConstants.{MOST_ENTRIES};
 ghost use Rattle.batch_desk.specs.declared.job.Job.{Job as AnyJob};
 ghost use Rattle.batch_desk.specs.JobReplies.{read_of};
 ghost use Rattle.command_machine.specs.declared.reply.Reply.{Reply as AnyReply};
@@ -116,7 +117,7 @@ impl Desk {
 
     // Books the next entry of the job.
     fn book_next(&mut self) -> Result<Reply, NoMemory>
-        requires { self.old.office.entries < 4_000_000_000 }
+        requires { self.old.office.entries < MOST_ENTRIES }
         ensures { IfOk result (CarriesOut self.old self.new
             (next_row self.old.office.state self.old.office.entries self.old.job)) }
     {

@@ -5,6 +5,7 @@ ghost use Rattle.sequence_once.specs.declared.standing.Standing.TheVariants.{Com
 ghost use Rattle.msag_edits.specs.GuideSoundness.{AreSound};
 ghost use Rattle.office_entry.specs.declared.entry.Entry.{Entry};
 ghost use Rattle.office_state.specs.History.{IsLegal, Repeats};
+ghost use Rattle.office_state.specs.OfficeState.{office_limits};
 ghost use Rattle.batch_desk.specs.declared.job.Job.{Job};
 ghost use Rattle.batch_desk.specs.Jobs.{job_standing, IsStillKept};
 ghost use Rattle.command_machine.specs.Commands.{Command, Batch, IsCommand};
@@ -13,10 +14,10 @@ ghost use Rattle.command_machine.specs.CommandText.{SpellsLine};
 ghost use Rattle.command_machine.specs.LineReading.{line_of};
 ghost use Rattle.command_machine.specs.Rows.{Row, Gives, reply_in, event_in};
 ghost use Rattle.command_machine.specs.Replies.{Reply, reply_text};
-ghost use Rattle.command_machine.specs.Machine.{Machine, Event, start, state_of, office_limits};
+ghost use Rattle.command_machine.specs.Machine.{Machine, Event, start, state_of};
 ghost use Rattle.command_machine.specs.CommandRows.{reply, after, after_all};
 
-use crate::command::FILE_LIMIT;
+use crate::command::{FILE_LIMIT, POSITIONS};
 
 /// What is read as the line of a command is what is spelled, and what is spelled so is read.
 pub fn command_lines_are_read_as_spelled()
@@ -73,4 +74,9 @@ pub fn batches_complete_their_jobs()
 /// A carrier's file has at most 16,777,216 bytes.
 pub fn limit_of_files()
     ensures { FILE_LIMIT ≡ 16_777_216 }
+{}
+
+/// There are 64 positions.
+pub fn limit_of_positions()
+    ensures { POSITIONS ≡ 64 }
 {}

@@ -10,12 +10,13 @@ mod laws;
 mod refusal;
 mod reply;
 
-pub use command::{Ask, Command, FILE_LIMIT};
+pub use command::{Ask, Command, FILE_LIMIT, POSITIONS};
 pub use command_line::CommandLine;
 pub use desk::Desk;
 pub use laws::{
     batches_complete_their_jobs, command_lines_are_read_as_spelled, histories_are_legal,
-    history_only_grows, limit_of_files, repeated_jobs_get_the_same_reply, rows_are_read_one_way,
+    history_only_grows, limit_of_files, limit_of_positions, repeated_jobs_get_the_same_reply,
+    rows_are_read_one_way,
 };
 pub use refusal::Refusal;
 pub use reply::Reply;

@@ -1,4 +1,5 @@
-use Rattle.command_machine.specs.Machine.{start, office_limits}
+use Rattle.office_state.specs.OfficeState.{office_limits}
+use Rattle.command_machine.specs.Machine.{start}
 use Rattle.command_machine.specs.CommandRows.{after_all}
 use Rattle.office_state.proofs.Positions.{once}
 use Rattle.office_state.proofs.SoundHistories.{sound_legal}
