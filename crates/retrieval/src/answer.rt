@@ -2,13 +2,14 @@
 ghost use Rattle.std.specs.Prelude.{◌≡◌, ◌≤◌, length};
 ghost use Rattle.std.specs.Option.{option_copied};
 ghost use Rattle.retrieval.specs.AnswerForm as forms;
+ghost use Rattle.retrieval.specs.declared.forms.TheConstants.{LONGEST_FORM};
 
 use crate::forms::form;
 use ali_base::Tn;
 use number_life::Row;
 use std::marker::Model;
 
-/// The form of a number: up to 290 bytes.
+/// The form of a number: up to `LONGEST_FORM` bytes.
 #[derive(Drop)]
 pub struct Form {
     bytes: [u8; 640],
@@ -17,12 +18,13 @@ pub struct Form {
 
 impl Model for Form {
     ghost use Rattle.std.specs.Prelude.{ℕ, ◌≤◌, List, take};
+    ghost use Rattle.retrieval.specs.declared.forms.TheConstants.{LONGEST_FORM};
 
     ghost Value = { List ℕ };
 
     ghost view = { λ f. take f.len f.bytes };
 
-    ghost invariant = { λ f. f.len ≤ 290 };
+    ghost invariant = { λ f. f.len ≤ LONGEST_FORM };
 }
 
 impl Form {
@@ -38,7 +40,7 @@ impl Form {
     /// Its bytes.
     pub fn bytes(&self) -> &[u8]
         ensures same { result.now ≡ self.now }
-        ensures len { length result.now ≤ 290 }
+        ensures len { length result.now ≤ LONGEST_FORM }
     {
         &self.bytes[..self.len]
     }

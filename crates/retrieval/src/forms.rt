@@ -2,6 +2,7 @@
 ghost use Rattle.std.specs.Prelude.{◌≡◌, ◌+◌, ◌≤◌, ◌++◌, length, max, take, unwrap_or};
 ghost use Rattle.std.specs.Option.{option_copied};
 ghost use Rattle.ali_base.specs.HouseNumber.{house_of};
+ghost use Rattle.ali_base.specs.declared.house.TheConstants.{HIGHEST_HOUSE};
 ghost use Rattle.ali_record.specs.Layout.{field_of};
 ghost use Rattle.text_line.specs.WordLines.{line_of};
 ghost use Rattle.retrieval.specs.AnswerForm.{printed_house, missing_line, number_line, name_line, address_line, city_line, location_line, lock_word, company_line, row_form, form};
@@ -12,6 +13,9 @@ use ali_record::{Field, Record};
 use itoa::Buffer;
 use number_life::Row;
 use text_line::Line;
+
+/// The most bytes of a form.
+pub const LONGEST_FORM: usize = 290;
 
 // The words as a line.
 fn line_of(words: &[&[u8]]) -> Line
@@ -30,7 +34,7 @@ fn line_of(words: &[&[u8]]) -> Line
 // The house number, 0 where its columns have none.
 fn house_number(rec: &Record) -> u32
     ensures number { result ≡ unwrap_or (house_of (field_of rec.now Field.HouseNumber)) 0 }
-    ensures limit { result ≤ 999_999 }
+    ensures limit { result ≤ HIGHEST_HOUSE }
 {
     match rec.house() {
         Some(house) => house.number(),
@@ -148,7 +152,7 @@ fn put_line(out: &mut [u8; 640], at: usize, line: &Line) -> usize
 #[tactic(auto, unfolding(crate::specs::AnswerForm::row_form))]
 fn row_form(row: &Row, out: &mut [u8; 640]) -> usize
     ensures text { take result out.new ≡ row_form row.now }
-    ensures len { result ≤ 290 }
+    ensures len { result ≤ LONGEST_FORM }
 {
     let rec = &row.rec;
     let at = put_line(out, 0, &number_line(rec));
@@ -160,11 +164,11 @@ fn row_form(row: &Row, out: &mut [u8; 640]) -> usize
 }
 
 /// Writes the form of a number, which has this row or none, at the front of `out`, and answers its
-/// length, 290 at most.
+/// length, `LONGEST_FORM` at most.
 #[tactic(auto, unfolding(crate::specs::AnswerForm::form))]
 pub fn form(row: Option<&Row>, tn: Tn, out: &mut [u8; 640]) -> usize
     ensures text { take result out.new ≡ form (option_copied row.entry) tn }
-    ensures len { result ≤ 290 }
+    ensures len { result ≤ LONGEST_FORM }
 {
     match row {
         Some(row) => row_form(row, out),

@@ -3,9 +3,11 @@
 
 mod answer;
 mod forms;
+mod laws;
 
 pub use answer::Form;
-pub use forms::form;
+pub use forms::{LONGEST_FORM, form};
+pub use laws::limit_of_forms;
 
 #[cfg(test)]
 mod tests;
