@@ -41,7 +41,8 @@ impl<T: Booked> Board<T> {
     ) -> Result<(Board<T>, Main<T>), NoMemory>
         requires lawful { T.lawful N.entries }
         requires count { (length N.entries ≡ count) × (count ≤ MOST_BOOKED) }
-        ensures { IfOk result (λ made. made.1 ≡ record { board = made.0; list = N.entries; duty = duty }) }
+        ensures { IfOk result
+            (λ made. made.1 ≡ record { board = made.0; list = N.entries; duty = duty }) }
     {
         let (table, mut seat) = Table::of_words(alloc, &[0], &())?;
         let word = Front::under(&duty, count).word();
@@ -168,7 +169,8 @@ impl<T: Booked> Board<T> {
         ensures main { main.new ≡ main.old }
         ensures pass { pass.new ≡ pass.old }
         ensures begins { IsPrefix pass.old.list main.old.list }
-        ensures front { IsNoEarlier pass.old.front (front_under main.old.duty (length main.old.list)) }
+        ensures front { IsNoEarlier pass.old.front
+            (front_under main.old.duty (length main.old.list)) }
     {
         let copy = self.table.shared.split_seat::<Copying>(&mut pass.seat);
         self.table.shared.join_seat::<Beside>(&mut main.seat, copy);

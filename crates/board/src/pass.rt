@@ -21,7 +21,8 @@ impl<T: Booked> Model for Main<T> {
 
     ghost Value = { MainHistory T.Entry };
 
-    ghost view = { λ m. record { board = m.seat.table_id; list = m.seat.me.0.list; duty = m.duty } };
+    ghost view = { λ m.
+        record { board = m.seat.table_id; list = m.seat.me.0.list; duty = m.duty } };
 
     ghost invariant = { λ m. IsMain T.lawful m.seat.me m.duty m.count };
 }
@@ -40,7 +41,8 @@ impl<T: Booked> Model for Pass<T> {
 
     ghost Value = { SeenHistory T.Entry };
 
-    ghost view = { λ p. record { board = p.seat.table_id; list = p.seat.me.0.list; front = p.seat.me.0.front } };
+    ghost view = { λ p.
+        record { board = p.seat.table_id; list = p.seat.me.0.list; front = p.seat.me.0.front } };
 
     ghost invariant = { λ p. IsPass T.lawful p.seat.me p.count };
 }

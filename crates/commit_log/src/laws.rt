@@ -22,7 +22,8 @@ pub fn an_image_is_read_one_way<R: BodyReader>()
     ensures not_both { (head image : List ℕ) (limit : ℕ) →
         IsForeign head image → IsDamagedSomewhere R.is_body head limit image → ⊥ }
     ensures not_damaged { (head image : List ℕ) (limit : ℕ) →
-        StandsForSome R.is_body head limit image → IsDamagedSomewhere R.is_body head limit image → ⊥ }
+        StandsForSome R.is_body head limit image →
+        IsDamagedSomewhere R.is_body head limit image → ⊥ }
     ensures one_damage { (head image : List ℕ) (limit j k : ℕ) →
         IsDamaged R.is_body head limit j image → IsDamaged R.is_body head limit k image → j ≡ k }
 {}

@@ -62,7 +62,8 @@ impl<D: Disk + Drop, R: BodyReader> Log<D, R> {
         requires limit { limit + 1 < 2 ^ 32 }
         requires buffer { length head.now < length buffer.old }
         requires reader { (limit ≤ R.room reader.old) × R.holds reader.old [] }
-        ensures answer { OpenAnswers R.is_body D.state (R.holds reader.new) head.now limit disk result }
+        ensures answer { OpenAnswers R.is_body D.state (R.holds reader.new)
+            head.now limit disk result }
         ensures capacity { R.capacity reader.new ≡ R.capacity reader.old }
     {
         let mut disk = disk;
@@ -172,7 +173,8 @@ impl<D: Disk + Drop, R: BodyReader> Log<D, R> {
         ensures stored { Becomes R.is_body D.state (λ bodies. with_body bodies (body_of block.old))
             self.old self.new result }
         // A crash at any moment leaves the bodies from before, with the new one or without.
-        ensures moments { CrashesBetween R.is_body D.state (λ bodies. with_body bodies (body_of block.old))
+        ensures moments { CrashesBetween R.is_body D.state
+            (λ bodies. with_body bodies (body_of block.old))
             self.old self.new }
         ensures answer { AppendAnswers D.state self.old self.new result }
         ensures fixed { IsFixed D.state self.old self.new }

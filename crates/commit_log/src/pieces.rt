@@ -100,7 +100,8 @@ pub fn read_frame<D: Disk, R: BodyReader>(
     ensures buffers { IfOk result
         (BuffersBehind (D.state disk.new) (frame_place body_len (number + 1)) buffer.new) }
     ensures frame { IfOk result
-        (ReadsNext R.is_body (R.holds reader.old) (R.holds reader.new) (D.state disk.new) body_len number) }
+        (ReadsNext R.is_body (R.holds reader.old) (R.holds reader.new) (D.state disk.new)
+        body_len number) }
     ensures room { R.room reader.old ≤ R.room reader.new + 1 }
     ensures capacity { R.capacity reader.new ≡ R.capacity reader.old }
     ensures stays { Stays (D.state disk.old) (D.state disk.new) }

@@ -21,10 +21,13 @@ pub fn write_frame<D: Disk, R: BodyReader>(
     requires length { length block.old ≡ body_len + 1 }
     requires lawful { R.is_body number (body_of block.old) ≡ true }
     ensures stored { (head : List ℕ) (bodies : List (List ℕ)) →
-        length head ≡ body_len → number ≡ length bodies + 1 → KeepsBodies R.is_body head bodies (D.state disk.old)
-        → OnOk result (KeepsBodies R.is_body head (with_body bodies (body_of block.old)) (D.state disk.new)) }
+        length head ≡ body_len → number ≡ length bodies + 1
+        → KeepsBodies R.is_body head bodies (D.state disk.old)
+        → OnOk result
+        (KeepsBodies R.is_body head (with_body bodies (body_of block.old)) (D.state disk.new)) }
     ensures moments { (head : List ℕ) (bodies : List (List ℕ)) →
-        length head ≡ body_len → number ≡ length bodies + 1 → KeepsBodies R.is_body head bodies (D.state disk.old)
+        length head ≡ body_len → number ≡ length bodies + 1
+        → KeepsBodies R.is_body head bodies (D.state disk.old)
         → EachMoment (D.state disk.old) (D.state disk.new)
         (StandsForEither R.is_body head bodies (with_body bodies (body_of block.old))) }
     ensures cause { HasCause (D.state disk.old) (D.state disk.new) result }

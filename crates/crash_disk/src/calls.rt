@@ -29,7 +29,8 @@ pub enum Call {
 /// Makes the writes of these calls again.
 pub fn replay(calls: &[Call], pieces: &[u8], bytes: &mut Vec<u8>)
     requires within { AllWithin (length pieces.now) calls.now }
-    requires room { length (content bytes.old.items (recorded pieces.now calls.now)) ≤ vec_capacity bytes.old }
+    requires room { length (content bytes.old.items (recorded pieces.now calls.now))
+        ≤ vec_capacity bytes.old }
     ensures bytes { bytes.new.items ≡ content bytes.old.items (recorded pieces.now calls.now) }
     ensures room { vec_capacity bytes.old ≤ vec_capacity bytes.new }
 {
@@ -41,7 +42,8 @@ pub fn replay(calls: &[Call], pieces: &[u8], bytes: &mut Vec<u8>)
 /// Fills what the writes of these calls reached and added.
 pub fn fill(calls: &[Call], pieces: &[u8], byte: u8, bytes: &mut Vec<u8>)
     requires within { AllWithin (length pieces.now) calls.now }
-    requires room { length (filled byte bytes.old.items (recorded pieces.now calls.now)) ≤ vec_capacity bytes.old }
+    requires room { length (filled byte bytes.old.items (recorded pieces.now calls.now))
+        ≤ vec_capacity bytes.old }
     ensures bytes { bytes.new.items ≡ filled byte bytes.old.items (recorded pieces.now calls.now) }
     ensures room { vec_capacity bytes.old ≤ vec_capacity bytes.new }
 {
@@ -53,7 +55,8 @@ pub fn fill(calls: &[Call], pieces: &[u8], byte: u8, bytes: &mut Vec<u8>)
 // Makes a call's write again, where it was done.
 fn replay_call(call: &Call, pieces: &[u8], bytes: &mut Vec<u8>)
     requires within { piece_end call.now ≤ length pieces.now }
-    requires room { length (content bytes.old.items (told pieces.now call.now ∷ [])) ≤ vec_capacity bytes.old }
+    requires room { length (content bytes.old.items (told pieces.now call.now ∷ []))
+        ≤ vec_capacity bytes.old }
     ensures bytes { bytes.new.items ≡ content bytes.old.items (told pieces.now call.now ∷ []) }
     ensures room { vec_capacity bytes.old ≤ vec_capacity bytes.new }
 {
@@ -73,7 +76,8 @@ fn replay_call(call: &Call, pieces: &[u8], bytes: &mut Vec<u8>)
 // Fills what a call's write reached and added.
 fn fill_call(call: &Call, pieces: &[u8], byte: u8, bytes: &mut Vec<u8>)
     requires within { piece_end call.now ≤ length pieces.now }
-    requires room { length (filled byte bytes.old.items (told pieces.now call.now ∷ [])) ≤ vec_capacity bytes.old }
+    requires room { length (filled byte bytes.old.items (told pieces.now call.now ∷ []))
+        ≤ vec_capacity bytes.old }
     ensures bytes { bytes.new.items ≡ filled byte bytes.old.items (told pieces.now call.now ∷ []) }
     ensures room { vec_capacity bytes.old ≤ vec_capacity bytes.new }
 {

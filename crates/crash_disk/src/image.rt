@@ -18,7 +18,8 @@ pub fn write_over(bytes: &mut Vec<u8>, at: usize, piece: &[u8])
 /// Adds bytes of one value up to a length.
 pub fn lengthen(bytes: &mut Vec<u8>, len: usize, byte: u8)
     requires { len ≤ vec_capacity bytes.old }
-    ensures bytes { bytes.new.items ≡ bytes.old.items ++ replicate (len - length bytes.old.items) byte }
+    ensures bytes { bytes.new.items
+        ≡ bytes.old.items ++ replicate (len - length bytes.old.items) byte }
     ensures room { vec_capacity bytes.old ≤ vec_capacity bytes.new }
 {
     let len = len.max(bytes.len());

@@ -31,7 +31,8 @@ impl Model for Record {
       left = r.left;
     } };
 
-    ghost invariant = { λ r. (CALL_COST * length r.calls.items + length r.pieces.items + r.left ≤ r.room)
+    ghost invariant = { λ r.
+        (CALL_COST * length r.calls.items + length r.pieces.items + r.left ≤ r.room)
         × (r.room < CALL_COST * (vec_capacity r.calls + 1)) × (r.room ≤ vec_capacity r.pieces)
         × AllWithin (length r.pieces.items) r.calls.items };
 }
@@ -114,7 +115,8 @@ impl Record {
 
     /// Fills what the writes since the last sync reached and added.
     pub fn fill_unsynced(&self, byte: u8, bytes: &mut Vec<u8>)
-        requires { length (filled byte bytes.old.items (since_sync self.now.calls)) ≤ vec_capacity bytes.old }
+        requires { length (filled byte bytes.old.items (since_sync self.now.calls))
+            ≤ vec_capacity bytes.old }
         ensures bytes { bytes.new.items ≡ filled byte bytes.old.items (since_sync self.now.calls) }
         ensures room { vec_capacity bytes.old ≤ vec_capacity bytes.new }
     {

@@ -59,8 +59,10 @@ pub fn an_image_is_read_one_way()
 /// A register that is opened after a change of duty, done or failed, has the duties from before or
 /// from after, where the disk tells its bytes.
 pub fn a_change_is_found_again<D: Disk>()
-    ensures { (old new : D) (last_epoch : ℕ) (register : Register D) (before after duties : List Duty) (image : List ℕ) →
-        EachMoment (D.state old) (D.state new) (StandsForEither before after) → (D.state new).content ≡ Some image →
+    ensures { (old new : D) (last_epoch : ℕ) (register : Register D)
+        (before after duties : List Duty) (image : List ℕ) →
+        EachMoment (D.state old) (D.state new) (StandsForEither before after) →
+        (D.state new).content ≡ Some image →
         IsOpened D.state new last_epoch register → Represents D.state register duties →
         (duties ≡ before) ⊎ (duties ≡ after) }
 {

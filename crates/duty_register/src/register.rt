@@ -95,10 +95,13 @@ impl<D: Disk + Drop> Register<D> {
     /// A node takes the duty, and is then alone. From `Ok` on, each crash leaves a disk that has it.
     pub fn take(&mut self, n: NodeName, floor: u32) -> Result<Duty, DutyFault>
         requires usable { is_usable self.old ≡ true }
-        ensures stored { Becomes D.state (taken (duty_of self.old) n floor) self.old self.new result }
+        ensures stored { Becomes D.state (taken (duty_of self.old) n floor)
+            self.old self.new result }
         // A crash at any moment leaves the duties from before, with the new one or without.
-        ensures moments { CrashesBetween D.state (taken (duty_of self.old) n floor) self.old self.new }
-        ensures answer { ChangeAnswers D.state modes.Both (taken (duty_of self.old) n floor) self.old self.new result }
+        ensures moments { CrashesBetween D.state (taken (duty_of self.old) n floor)
+            self.old self.new }
+        ensures answer { ChangeAnswers D.state modes.Both (taken (duty_of self.old) n floor)
+            self.old self.new result }
         ensures fixed { IsFixed D.state self.old self.new }
     {
         let Duty {
@@ -116,10 +119,13 @@ impl<D: Disk + Drop> Register<D> {
     /// The holder goes on alone. From `Ok` on, each crash leaves a disk that has it.
     pub fn alone(&mut self, floor: u32) -> Result<Duty, DutyFault>
         requires usable { is_usable self.old ≡ true }
-        ensures stored { Becomes D.state (left_alone (duty_of self.old) floor) self.old self.new result }
+        ensures stored { Becomes D.state (left_alone (duty_of self.old) floor)
+            self.old self.new result }
         // A crash at any moment leaves the duties from before, with the new one or without.
-        ensures moments { CrashesBetween D.state (left_alone (duty_of self.old) floor) self.old self.new }
-        ensures answer { ChangeAnswers D.state modes.Both (left_alone (duty_of self.old) floor) self.old self.new result }
+        ensures moments { CrashesBetween D.state (left_alone (duty_of self.old) floor)
+            self.old self.new }
+        ensures answer { ChangeAnswers D.state modes.Both (left_alone (duty_of self.old) floor)
+            self.old self.new result }
         ensures fixed { IsFixed D.state self.old self.new }
     {
         let holder = self.duty.holder;
@@ -129,10 +135,13 @@ impl<D: Disk + Drop> Register<D> {
     /// Both nodes are in step again. From `Ok` on, each crash leaves a disk that has it.
     pub fn pair(&mut self, floor: u32) -> Result<Duty, DutyFault>
         requires usable { is_usable self.old ≡ true }
-        ensures stored { Becomes D.state (paired (duty_of self.old) floor) self.old self.new result }
+        ensures stored { Becomes D.state (paired (duty_of self.old) floor)
+            self.old self.new result }
         // A crash at any moment leaves the duties from before, with the new one or without.
-        ensures moments { CrashesBetween D.state (paired (duty_of self.old) floor) self.old self.new }
-        ensures answer { ChangeAnswers D.state modes.Alone (paired (duty_of self.old) floor) self.old self.new result }
+        ensures moments { CrashesBetween D.state (paired (duty_of self.old) floor)
+            self.old self.new }
+        ensures answer { ChangeAnswers D.state modes.Alone (paired (duty_of self.old) floor)
+            self.old self.new result }
         ensures fixed { IsFixed D.state self.old self.new }
     {
         let Duty {
@@ -150,9 +159,12 @@ impl<D: Disk + Drop> Register<D> {
     // Adds the duty after the present one, in whatever mode that is.
     fn change(&mut self, holder: NodeName, mode: Mode, floor: u32) -> Result<Duty, DutyFault>
         requires usable { is_usable self.old ≡ true }
-        ensures stored { Becomes D.state (next_duty (duty_of self.old) holder mode floor) self.old self.new result }
-        ensures moments { CrashesBetween D.state (next_duty (duty_of self.old) holder mode floor) self.old self.new }
-        ensures answer { ChangeAnswers D.state (duty_of self.old).mode (next_duty (duty_of self.old) holder mode floor) self.old self.new result }
+        ensures stored { Becomes D.state (next_duty (duty_of self.old) holder mode floor)
+            self.old self.new result }
+        ensures moments { CrashesBetween D.state (next_duty (duty_of self.old) holder mode floor)
+            self.old self.new }
+        ensures answer { ChangeAnswers D.state (duty_of self.old).mode
+            (next_duty (duty_of self.old) holder mode floor) self.old self.new result }
         ensures fixed { IsFixed D.state self.old self.new }
     {
         let duty = Duty {

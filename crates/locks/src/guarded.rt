@@ -47,7 +47,8 @@ impl<T: OfBoard> Model for Guarded<T> {
 
     ghost view = { λ g. record { board = g.table.shared.key; slot = g.table.shared.table_id } };
 
-    ghost invariant = { λ g. (g.table.shared.table_id.words ≡ 1) × (g.table.shared.table_id.slots ≡ 1) };
+    ghost invariant = { λ g. (g.table.shared.table_id.words ≡ 1)
+        × (g.table.shared.table_id.slots ≡ 1) };
 }
 
 /// A lock was dropped while it was entered. What was kept need not be of the board any more.

@@ -63,5 +63,6 @@ pub trait Lock<T: OfBoard> {
     ghost with_tells: { (s : Self) (x : T) → entered s ≡ true → tells (with_kept s x) ≡ Some x };
 
     /// A write that keeps the board of what is kept keeps that of the lock.
-    ghost with_board: { (s : Self) (x : T) → T.board x ≡ board s → board (with_kept s x) ≡ board s };
+    ghost with_board: { (s : Self) (x : T) →
+        T.board x ≡ board s → board (with_kept s x) ≡ board s };
 }

@@ -62,7 +62,9 @@ pub fn book_under<T: Booked, N: Named<T::Entry>, L: Lock<Writer<T>>, R: Wait>(
     ensures free { L.entered lock.new ≡ false }
     ensures longer { IsPrefix pass.list result.0.list }
     ensures seen { IfSome result.1 (λ number. IsBooked N.entries number result.0.list) }
-    ensures told { L.always ≡ true → IfSome (L.tells lock.old) (λ was. IsSomeAnd (L.tells lock.new) (λ is. WasBooked N.entries was.main.list result.1 is.main.list)) }
+    ensures told { L.always ≡ true → IfSome (L.tells lock.old)
+        (λ was. IsSomeAnd (L.tells lock.new)
+        (λ is. WasBooked N.entries was.main.list result.1 is.main.list)) }
 {
     lock.enter(rt);
     let answer = book_lent::<T, N>(board, lock.kept(), pass);
@@ -100,7 +102,8 @@ impl<T: Booked> SmallHall<T> {
     /// A lock over its writer, for one caller.
     pub fn lock<'h>(&'h self) -> SharedLock<'h, Writer<T>>
         ensures entered { ⟦<SharedLock<'h, Writer<T>> as Lock<Writer<T>>>⟧.entered result ≡ false }
-        ensures board { ⟦<SharedLock<'h, Writer<T>> as Lock<Writer<T>>>⟧.board result ≡ self.now.board }
+        ensures board { ⟦<SharedLock<'h, Writer<T>> as Lock<Writer<T>>>⟧.board result
+            ≡ self.now.board }
     {
         self.writer.lock()
     }

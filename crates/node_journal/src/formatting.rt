@@ -14,7 +14,9 @@ use crash_disk::Disk;
 pub fn format<D: Disk>(disk: &mut D, name: NodeName) -> Result<(), FormatFault>
     ensures answer { FormatAnswers name (D.state disk.old) (D.state disk.new) result }
     // A crash at any moment leaves the old bytes, torn in the first block.
-    ensures moments { (image : List ℕ) → IsSynced (D.state disk.old) image → EachMoment (D.state disk.old) (D.state disk.new) (Torn 0 640 image) }
+    ensures moments { (image : List ℕ) →
+        IsSynced (D.state disk.old) image →
+        EachMoment (D.state disk.old) (D.state disk.new) (Torn 0 640 image) }
     ensures faults { (D.state disk.old).faults ≤ (D.state disk.new).faults }
 {
     commit_log::format::<D, Epochs>(disk, &mut first_block(name))

@@ -24,9 +24,11 @@ pub(crate) fn frame_block(number: u32, epoch: u32, entry: &Entry) -> [u8; 640]
 
 /// The entry and the epoch of a body. None where the bytes are no body of the frame of that number.
 pub(crate) fn frame_of(number: u32, bytes: &[u8]) -> Option<(Entry, u32)>
-    ensures found { IfSome result (λ x. IsBodyOf number (record { entry = x.0; epoch = x.1 }) bytes.now) }
+    ensures found { IfSome result
+        (λ x. IsBodyOf number (record { entry = x.0; epoch = x.1 }) bytes.now) }
     // The same by the reader.
-    ensures exact { option_map (λ x. record { entry = x.0; epoch = x.1 }) result ≡ frame_from number bytes.now }
+    ensures exact { option_map (λ x. record { entry = x.0; epoch = x.1 }) result
+        ≡ frame_from number bytes.now }
 {
     frame_from(number, bytes)
 }
@@ -34,7 +36,8 @@ pub(crate) fn frame_of(number: u32, bytes: &[u8]) -> Option<(Entry, u32)>
 // The entry and the epoch of a body, by its fields from the front.
 #[tactic(auto, unfolding(crate::specs::FrameBytes::frame_from))]
 fn frame_from(number: u32, bytes: &[u8]) -> Option<(Entry, u32)>
-    ensures { option_map (λ x. record { entry = x.0; epoch = x.1 }) result ≡ frame_from number bytes.now }
+    ensures { option_map (λ x. record { entry = x.0; epoch = x.1 }) result
+        ≡ frame_from number bytes.now }
 {
     let (told, rest) = number_at(bytes)?;
     let (epoch, rest) = number_at(rest)?;

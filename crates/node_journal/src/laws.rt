@@ -12,8 +12,10 @@ use crate::epochs::Epochs;
 
 /// Bytes are read as the body of a frame exactly where they are the body of one, and of one alone.
 pub fn bodies_are_read_as_written()
-    ensures back { (k : ℕ) (frame : Frame Entry) → k < 2 ^ 32 → IsFrame frame → is_body k (body k frame) ≡ true }
-    ensures only { (k : ℕ) (bytes : List ℕ) → AreBytes bytes → is_body k bytes ≡ true → IsSomeBody k bytes }
+    ensures back { (k : ℕ) (frame : Frame Entry) →
+        k < 2 ^ 32 → IsFrame frame → is_body k (body k frame) ≡ true }
+    ensures only { (k : ℕ) (bytes : List ℕ) →
+        AreBytes bytes → is_body k bytes ≡ true → IsSomeBody k bytes }
     ensures one { (k : ℕ) (frame other : Frame Entry) →
         IsFrame frame → IsFrame other → body k frame ≡ body k other → frame ≡ other }
 {}
@@ -30,7 +32,8 @@ pub fn frames_are_known_from_the_image()
 /// frames within the limit.
 pub fn an_image_is_read_one_way()
     ensures some { (name : AnyName) (image : List ℕ) (limit : ℕ) → AreBytes image →
-        IsForeign name image ⊎ IsDamagedSomewhere name limit image ⊎ StandsForSome name limit image }
+        IsForeign name image ⊎ IsDamagedSomewhere name limit image
+        ⊎ StandsForSome name limit image }
     ensures not_foreign { (name : AnyName) (image : List ℕ) (frames : List (Frame Entry)) →
         StandsFor name frames image → IsForeign name image → ⊥ }
     ensures not_both { (name : AnyName) (image : List ℕ) (limit : ℕ) →

@@ -26,7 +26,8 @@ impl Entry {
         // What is read has these bytes.
         ensures found { IfSome result (λ entry. IsInRange entry × (bytes.now ≡ entry_bytes entry)) }
         // The bytes of an entry are read as this entry.
-        ensures only { (entry : AnyEntry) → IsInRange entry → bytes.now ≡ entry_bytes entry → result ≡ Some entry }
+        ensures only { (entry : AnyEntry) →
+            IsInRange entry → bytes.now ≡ entry_bytes entry → result ≡ Some entry }
         // The same by the reader.
         ensures exact { result ≡ entry_from bytes.now }
     {

@@ -8,14 +8,17 @@ ghost use Rattle.office_entry.specs.EntryReading.{entry_from};
 /// The bytes of an entry are read as it, and what bytes are read as has these bytes.
 pub fn entries_are_read_as_written()
     ensures back { (entry : Entry) → IsInRange entry → entry_from (entry_bytes entry) ≡ Some entry }
-    ensures only { (bytes : List ℕ) (entry : Entry) → All (λ byte. byte < 2 ^ 8) bytes → length bytes ≡ 631 → entry_from bytes ≡ Some entry → IsInRange entry × (bytes ≡ entry_bytes entry) }
+    ensures only { (bytes : List ℕ) (entry : Entry) →
+        All (λ byte. byte < 2 ^ 8) bytes → length bytes ≡ 631 → entry_from bytes ≡ Some entry →
+        IsInRange entry × (bytes ≡ entry_bytes entry) }
     // An entry has 631 bytes.
     ensures width { (entry : Entry) → IsInRange entry → length (entry_bytes entry) ≡ 631 }
 {}
 
 /// Bytes are the bytes of one entry.
 pub fn bytes_are_of_one_entry()
-    ensures { (entry other : Entry) → IsInRange entry → IsInRange other → entry_bytes entry ≡ entry_bytes other → entry ≡ other }
+    ensures { (entry other : Entry) →
+        IsInRange entry → IsInRange other → entry_bytes entry ≡ entry_bytes other → entry ≡ other }
 {}
 
 /// An entry whose fields are in their ranges is an entry of a history.
