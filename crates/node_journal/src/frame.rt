@@ -10,6 +10,9 @@ use office_entry::Entry;
 /// The last epoch.
 pub const LAST_EPOCH: u32 = 4_194_303;
 
+/// The most frames that a journal has.
+pub const MOST_FRAMES: u32 = 1_000_000;
+
 /// The body of the frame of a number, and room for the commit byte behind it.
 pub(crate) fn frame_block(number: u32, epoch: u32, entry: &Entry) -> [u8; 640]
     ensures body { body_of result ≡ body number (record { entry = entry.now; epoch = epoch }) }

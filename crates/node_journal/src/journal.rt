@@ -3,6 +3,7 @@ ghost use Rattle.std.specs.Prelude.{◌≡◌, ◌≤◌, ◌-◌, length, take,
 ghost use Rattle.commit_log.specs.OpenLog.{body_len_of, limit_of as log_limit, count_of as log_count, is_usable as log_usable};
 ghost use Rattle.node_journal.specs.FrameBytes.{IsEpoch};
 ghost use Rattle.node_journal.specs.JournalState.{with_frame};
+ghost use Rattle.node_journal.specs.declared.frame.TheConstants.{MOST_FRAMES};
 
 use crate::epochs::Epochs;
 use crate::faults::{AppendFault, DiskFault, JournalFault, ReadFault, refusal};
@@ -24,7 +25,7 @@ pub struct Journal<D> {
     name: NodeName,
     epochs: Epochs,
     ghost body_len: { body_len_of log ≡ 639 },
-    ghost few: { log_limit log ≤ 1_000_000 },
+    ghost few: { log_limit log ≤ MOST_FRAMES },
     ghost room: { log_limit log ≤ vec_capacity epochs.items },
     ghost within: { length epochs.items.items ≤ log_limit log },
     ghost known: { log_usable log ≡ true → length epochs.items.items ≡ log_count log },
@@ -40,7 +41,7 @@ impl<D: Disk + Drop> Journal<D> {
         name: NodeName,
         limit: u32,
     ) -> Result<Journal<D>, (D, JournalFault)>
-        requires { limit ≤ 1_000_000 }
+        requires { limit ≤ MOST_FRAMES }
         ensures { OpenAnswers D.state disk name limit result }
     {
         let mut epochs = match Epochs::new(alloc, limit) {

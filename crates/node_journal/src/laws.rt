@@ -6,7 +6,7 @@ ghost use Rattle.office_entry.specs.declared.entry.Entry.{Entry};
 ghost use Rattle.pair_world.specs.Frames.{Frame};
 ghost use Rattle.node_journal.specs.FrameBytes.{IsFrame, IsSomeBody, body, is_body};
 ghost use Rattle.node_journal.specs.JournalImage.{StandsFor, StandsForSome, IsForeign, IsDamaged, IsDamagedSomewhere};
-ghost use Rattle.node_journal.specs.declared.frame.TheConstants.{LAST_EPOCH};
+ghost use Rattle.node_journal.specs.declared.frame.TheConstants.{LAST_EPOCH, MOST_FRAMES};
 
 use crate::epochs::Epochs;
 
@@ -49,4 +49,9 @@ pub fn an_image_is_read_one_way()
 /// Epochs are at most 4,194,303.
 pub fn limit_of_epochs()
     ensures { LAST_EPOCH ≡ 4_194_303 }
+{}
+
+/// A journal has at most 1,000,000 frames.
+pub fn limit_of_frames()
+    ensures { MOST_FRAMES ≡ 1_000_000 }
 {}

@@ -15,11 +15,11 @@ mod laws;
 pub use commit_log::FormatFault;
 pub use faults::{AppendFault, DiskFault, JournalFault, ReadFault};
 pub use formatting::format;
-pub use frame::LAST_EPOCH;
+pub use frame::{LAST_EPOCH, MOST_FRAMES};
 pub use journal::Journal;
 pub use laws::{
     an_image_is_read_one_way, bodies_are_read_as_written, frames_are_known_from_the_image,
-    limit_of_epochs,
+    limit_of_epochs, limit_of_frames,
 };
 
 #[cfg(test)]
