@@ -36,10 +36,6 @@ length-log_front is_body n head k bodies long counts lawful =
     let there : length (log_front head bodies) + 1 ≡ frame_place n (suc (length bodies)) = omega (arith, long, length-append head (committed_frames bodies), length-committed_frames is_body n 1 bodies lawful, mul-suc (n + 1) (length bodies)) in
     there ∙ ap (frame_place n) here
 
--- the place of the next frame
-pub next_place : (n k : ℕ) → frame_place n k + (n + 1) ≡ frame_place n (k + 1)
-next_place n k = let here : suc k ≡ k + 1 = omega arith in sym (mul-suc (n + 1) k) ∙ ap (frame_place n) here
-
 -- the bodies in two parts
 pub log_front_append : (head : List ℕ) (a b : List (List ℕ)) → log_front head (a ++ b) ≡ log_front head a ++ committed_frames b
 log_front_append head a b = ap (λ (l : List ℕ). head ++ l) (flat_map-append (λ (body : List ℕ). committed ∷ body) a b) ∙ sym (append_assoc head (committed_frames a) (committed_frames b))
@@ -54,7 +50,7 @@ commit_next [] next rest = (next, rest, refl)
 commit_next (x ∷ bodies) next rest = (committed, x ++ committed_frames bodies ++ next ∷ rest, refl)
 
 -- frame k among the bytes: its body, behind its commit byte
-pub record Standing (is_body : ℕ → List ℕ → Bool) (head : List ℕ) (bodies : List (List ℕ)) (k : ℕ) (image : List ℕ) : Type 0 where
+pub record StandingBodies (is_body : ℕ → List ℕ → Bool) (head : List ℕ) (bodies : List (List ℕ)) (k : ℕ) (image : List ℕ) : Type 0 where
   pub body : List ℕ
   pub next : ℕ
   pub more : List ℕ
@@ -79,7 +75,7 @@ first_of : (l : List (List ℕ)) → 0 < length l → First l
 first_of [] some = absurd (omega (arith, some))
 first_of (x ∷ l) some = record { first = x; others = l; is = refl }
 
-pub standing : (is_body : ℕ → List ℕ → Bool) (head : List ℕ) (bodies : List (List ℕ)) (k : ℕ) (image : List ℕ) (next : ℕ) (rest : List ℕ) → 1 ≤ k → k ≤ length bodies → AreBodies is_body (length head) 1 bodies → image ≡ log_front head bodies ++ next ∷ rest → Standing is_body head bodies k image
+pub standing : (is_body : ℕ → List ℕ → Bool) (head : List ℕ) (bodies : List (List ℕ)) (k : ℕ) (image : List ℕ) (next : ℕ) (rest : List ℕ) → 1 ≤ k → k ≤ length bodies → AreBodies is_body (length head) 1 bodies → image ≡ log_front head bodies ++ next ∷ rest → StandingBodies is_body head bodies k image
 standing is_body head bodies k image next rest low high lawful parts =
     let front : List (List ℕ) = take (k - 1) bodies in
     let back = first_of (drop (k - 1) bodies) (omega (arith, length-drop (k - 1) bodies, low, high)) in

@@ -8,13 +8,13 @@ use Rattle.crash_disk.proofs.Runs.{weaker}
 use Rattle.crash_disk.proofs.TornBytes.{torn_byte, written_at}
 use Rattle.commit_log.specs.LogImage.{StandsFor, log_front, frame_place, committed}
 use Rattle.commit_log.specs.LogState.{StandsForEither}
-use Rattle.commit_log.proofs.Bodies.{Standing, standing, bodies_take}
+use Rattle.commit_log.proofs.Bodies.{StandingBodies, standing, bodies_take}
 
 module _ (is_body : ℕ → List ℕ → Bool) (head : List ℕ) (bodies : List (List ℕ)) (k at : ℕ) (low : 1 ≤ k) (high : k ≤ length bodies) (there : at + 1 ≡ frame_place (length head) k) (image : List ℕ) (stands : StandsFor is_body head bodies image) where
   abbrev front : List (List ℕ)
   front = take (k - 1) bodies
 
-  here : Standing is_body head bodies k image
+  here : StandingBodies is_body head bodies k image
   here = standing is_body head bodies k image stands.next stands.rest low high stands.lawful stands.parts
 
   -- what stands behind the commit byte

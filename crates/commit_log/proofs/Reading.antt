@@ -3,9 +3,9 @@ use Rattle.std.proofs.Common.{◌≡◌, ℕ, ◌-◌, ◌<◌, ◌≤◌, Bool,
 use Rattle.std.specs.Prelude.{slice_get}
 use Rattle.std.proofs.lemmas.List.{take_all, take_at, drop_at}
 use Rattle.commit_log.specs.LogImage.{log_front, frame_place, committed}
-use Rattle.commit_log.proofs.Bodies.{Standing}
+use Rattle.commit_log.proofs.Bodies.{StandingBodies}
 
-module _ (is_body : ℕ → List ℕ → Bool) (head : List ℕ) (bodies : List (List ℕ)) (k : ℕ) (image : List ℕ) (s : Standing is_body head bodies k image) where
+module _ (is_body : ℕ → List ℕ → Bool) (head : List ℕ) (bodies : List (List ℕ)) (k : ℕ) (image : List ℕ) (s : StandingBodies is_body head bodies k image) where
   -- what stands in the frame's place
   pub behind_place : (place : ℕ) → place ≡ frame_place (length head) k → drop place image ≡ s.body ++ s.next ∷ s.more
   behind_place place is =

@@ -1,16 +1,8 @@
 -- How a run of calls goes on.
 use Rattle.std.proofs.Common.{◌⊎◌, inl, inr, ⊎_elim, ℕ, ◌≤◌, List, refl, ◌∙◌, arith}
 use Rattle.crash_disk.specs.DiskState.{DiskState, IsSound}
-use Rattle.crash_disk.specs.CrashOutcomes.{GoesOn, Stays}
+use Rattle.crash_disk.specs.CrashOutcomes.{Stays}
 use Rattle.crash_disk.specs.Moments.{EachMoment}
-
--- one call
-pub one_call : (old new : DiskState) (P : List ℕ → Type 0) → IsSound old → GoesOn old new → ((c : List ℕ) → old.may_leave c → P c) → ((c : List ℕ) → new.may_leave c → P c) → EachMoment old new P
-one_call old new P sound on before after = record {
-  later = on.later;
-  each = λ c left. ⊎_elim (λ past. before c (sound.only_now c past)) (after c) (on.nothing_else old.moment c (omega arith) left);
-  before = λ t c le left. ⊎_elim (λ past. inl past) (λ now. inr (after c now)) (on.nothing_else t c le left);
-}
 
 -- one run after another
 pub run_on : (old mid new : DiskState) (P : List ℕ → Type 0) → EachMoment old mid P → EachMoment mid new P → EachMoment old new P
