@@ -4,6 +4,7 @@ use Rattle.std.specs.Option.{option_map}
 use Rattle.std.proofs.lemmas.List.{length-take-le}
 use Rattle.std.proofs.lemmas.List.Elements.{All-contains}
 use Rattle.ali_base.specs.HouseNumber.{house_of}
+use Rattle.ali_base.specs.declared.esn.TheConstants.{HIGHEST_ESN}
 use Rattle.ali_base.specs.Numbers.{zero_padded}
 use Rattle.address_check.specs.Placement.{place, place_by, esn_agrees}
 use Rattle.msag_ranges.specs.StreetGuide.{holds, holder, nearest_fault}
@@ -99,8 +100,8 @@ stored_is ranges bytes = at (sends_address (byte_of bytes Function)) (place_of_r
     at true (Some (Err code)) sends h = inl (rw (sends, h) refl)
     at true (Some (Ok place)) sends h = inr (held_at ranges bytes place sends h)
 
-small_there : (ranges : List Range) (bytes : List ℕ) → HaveFiveDigits ranges → (h : IsHeld ranges bytes) → h.range.esn ≤ 99_999
-small_there ranges bytes small h = All-contains (λ r. r.esn ≤ 99_999) ranges h.range small h.live
+small_there : (ranges : List Range) (bytes : List ℕ) → HaveFiveDigits ranges → (h : IsHeld ranges bytes) → h.range.esn ≤ HIGHEST_ESN
+small_there ranges bytes small h = All-contains (λ r. r.esn ≤ HIGHEST_ESN) ranges h.range small h.live
 
 -- a stored record has 512 bytes
 pub stored-size : (ranges : List Range) (bytes : List ℕ) → HaveFiveDigits ranges → length bytes ≡ 512 → length (stored ranges bytes) ≡ 512

@@ -1,6 +1,7 @@
 //! Laws on one line, over any guide and any table.
 ghost use Rattle.std.specs.Prelude.{◌≡◌, ◌≤◌, ℕ, List, All, Some, None, IsSome};
 ghost use Rattle.std.specs.FinMap.{get};
+ghost use Rattle.ali_base.specs.declared.esn.TheConstants.{HIGHEST_ESN};
 ghost use Rattle.ali_record.specs.Layout.{field_of};
 ghost use Rattle.ali_record.specs.declared.field.Field.TheVariants.{TelephoneNumber};
 ghost use Rattle.msag_ranges.specs.declared.range.Range.{Range};
@@ -31,7 +32,7 @@ pub fn locked_rows_stay()
 pub fn owners_change_by_migrates()
     ensures { (ranges : List Range) (table : NumberTable) (most : ℕ)
         (company bytes tn : List ℕ) (old new : Row)
-        → All (λ r. r.esn ≤ 99_999) ranges
+        → All (λ r. r.esn ≤ HIGHEST_ESN) ranges
         → get table tn ≡ Some old
         → get (table_with_line ranges table most company bytes) tn ≡ Some new
         → (owner new ≡ owner old → ⊥) → IsMigrated company bytes old new }
