@@ -3,55 +3,20 @@ ghost use Rattle.std.specs.Prelude.{◌+◌, ◌≤◌, length};
 
 use crate::{Status, office};
 use ali_base::{MemSink, MemSource};
+use office_fixtures::{SentRecord, put};
 use std::alloc::Global;
 use std::test::Fail;
 
-// Writes a text over the columns from `column` on, counted from 1.
-fn put(record: &mut [u8; 512], column: usize, text: &[u8])
-    requires { (1 ≤ column) × (column + length text.now ≤ 513) }
-{
-    record[column - 1..column - 1 + text.len()].copy_from_slice(text);
-}
-
-// A record of a number on MAIN ST, DENVER CO, with its function in front.
-fn record(number: &[u8; 11], house: &[u8; 6]) -> [u8; 512] {
-    let mut record = [b' '; 512];
-    put(&mut record, 1, number);
-    put(&mut record, 12, house);
-    put(&mut record, 28, b"MAIN");
-    put(&mut record, 88, b"ST");
-    put(&mut record, 94, b"DENVER");
-    put(&mut record, 126, b"CO");
-    put(&mut record, 188, b"JOHN SMITH");
-    put(&mut record, 220, b"10");
-    put(&mut record, 251, b"010224");
-    put(&mut record, 261, b"ABC01");
-    put(&mut record, 512, b"*");
-    record
-}
-
-// A header or a trailer.
-fn end(name: &[u8; 3], tail: &[u8; 9]) -> [u8; 512] {
-    let mut end = [b' '; 512];
-    put(&mut end, 1, name);
-    put(&mut end, 4, b"010224");
-    put(&mut end, 10, b"ABC01");
-    put(&mut end, 15, tail);
-    put(&mut end, 512, b"*");
-    end
-}
-
 // The header of a cycle, whose number is one digit.
 pub(crate) fn header(cycle: u8) -> [u8; 512] {
-    let mut header = end(b"UHL", b"0000001  ");
+    let mut header = office_fixtures::header(b"ABC01", b"000000");
     header[19] = cycle;
-    header[20] = b'1';
     header
 }
 
 // The trailer that tells this count, which is one digit.
 pub(crate) fn trailer(count: u8) -> [u8; 512] {
-    let mut trailer = end(b"UTL", b"000000000");
+    let mut trailer = office_fixtures::trailer(b"ABC01", b"000000000");
     trailer[22] = count;
     trailer
 }
@@ -147,9 +112,9 @@ TN 3035550199 NO RECORD FOUND
 // same reply and books nothing.
 #[test]
 fn file_entry_by_entry(rt: HostRuntime) -> Result<(), Fail> {
-    let insert = record(b"I3035550100", b"100   ");
-    let unlock = record(b"U3035550100", b"      ");
-    let change = record(b"C3035550100", b"102   ");
+    let insert = SentRecord::new(b'I', b"3035550100", b"100").bytes();
+    let unlock = SentRecord::new(b'U', b"3035550100", b"").bytes();
+    let change = SentRecord::new(b'C', b"3035550100", b"102").bytes();
     let file = [header(b'1'), insert, unlock, change, trailer(b'3')];
     let mut script = b"EDIT 1 1 ADD DENVER|CO||MAIN|ST||100|198|E|101\nNEXT\nNEXT\n".to_vec(
         rt.alloc(),
@@ -194,7 +159,7 @@ fn sent(company: &[u8; 5], cycle: u8, function: u8, code: u16) -> SmallFile {
 fn add_small_file(alloc: Global, script: &mut Vec<u8>, file: &SmallFile) -> Result<(), Fail> {
     let company = file.company;
     let mut first = header(file.cycle);
-    let mut only = record(b"I3035550100", b"100   ");
+    let mut only = SentRecord::new(b'I', b"3035550100", b"100").bytes();
     let mut last = trailer(b'1');
     only[0] = file.function;
     put(&mut first, 10, &company);
@@ -273,7 +238,7 @@ fn a_number_moves(rt: HostRuntime) -> Result<(), Fail> {
 
 // A record of the next number of a file, at this house of MAIN ST.
 fn at_house(last_digit: u8, house: &[u8; 6]) -> [u8; 512] {
-    let mut at = record(b"I3035550100", house);
+    let mut at = SentRecord::new(b'I', b"3035550100", house).bytes();
     at[10] = last_digit;
     at
 }
@@ -557,8 +522,8 @@ fn add_letters(script: &mut Vec<u8>, line: &[u8], len: usize) -> Result<(), Fail
 // file leaves the job that was.
 #[test]
 fn files_with_a_wrong_frame(rt: HostRuntime) -> Result<(), Fail> {
-    let one = record(b"I3035550100", b"100   ");
-    let two = record(b"I3035550101", b"101   ");
+    let one = SentRecord::new(b'I', b"3035550100", b"100").bytes();
+    let two = SentRecord::new(b'I', b"3035550101", b"101").bytes();
     let mut script = Vec::new(rt.alloc());
     add_file(rt.alloc(), &mut script, &[header(b'1'), trailer(b'0')])?;
     add_file(
@@ -616,7 +581,7 @@ TOO OLD 2
 // kept.
 #[test]
 fn files_out_of_turn(rt: HostRuntime) -> Result<(), Fail> {
-    let one = record(b"I3035550100", b"100   ");
+    let one = SentRecord::new(b'I', b"3035550100", b"100").bytes();
     let mut other = one;
     put(&mut other, 276, b"x");
     let mut script = STREET.to_vec(rt.alloc())?;
