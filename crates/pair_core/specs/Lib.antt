@@ -1,0 +1,4 @@
+pub mod NodeState
+pub mod StartedNode
+pub mod WrittenFrame
+pub mod LearnedEntries

@@ -1,0 +1,10 @@
+//! A node of the pair: its journal on a disk, and the table that it makes of the journal's entries.
+#![tactic(auto)]
+
+mod faults;
+mod learning;
+mod node;
+
+pub use faults::{LearnFault, StartFault};
+pub use node::Node;
+pub use node_journal::AppendFault;
