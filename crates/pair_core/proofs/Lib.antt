@@ -1,1 +1,3 @@
 mod Learned
+mod Changed
+mod Decided

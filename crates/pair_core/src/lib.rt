@@ -3,8 +3,12 @@
 
 mod faults;
 mod learning;
+mod message;
 mod node;
+mod sending;
+mod storing;
 
 pub use faults::{LearnFault, StartFault};
+pub use message::{Ack, Delivered, Message, What};
 pub use node::Node;
-pub use node_journal::AppendFault;
+pub use node_journal::{AppendFault, DiskFault, ReadFault};

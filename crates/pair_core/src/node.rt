@@ -18,7 +18,7 @@ pub struct Node<D> {
     pub(crate) journal: Journal<D>,
     pub(crate) office: Office,
     pub(crate) learned: u32,
-    known: u32,
+    pub(crate) known: u32,
     pub(crate) usable: bool,
     ghost few: { journals.limit_of journal ≤ 1_000_000 },
     ghost within: { journals.count_of journal ≤ journals.limit_of journal },
@@ -29,7 +29,7 @@ pub struct Node<D> {
 
 impl<D: Disk + Drop> Node<D> {
     ghost use Rattle.pair_core.specs.NodeState.{disk_of, count_of, office_of, learned_of, known_of, is_usable};
-    ghost use Rattle.pair_core.specs.StartedNode.{StartAnswers};
+    ghost use Rattle.pair_core.specs.StartedNode.{Asked, StartAnswers};
     ghost use Rattle.pair_core.specs.WrittenFrame.{Becomes, CrashesBetween, IsFixed, WriteAnswers};
 
     /// Starts a node whose journal has at least `need` frames and at most `limit`. It syncs the
@@ -44,7 +44,14 @@ impl<D: Disk + Drop> Node<D> {
         limit: u32,
     ) -> Result<Node<D>, (D, StartFault)>
         requires { limit ≤ 1_000_000 }
-        ensures { StartAnswers D.state disk (record { name = name; known = known; need = need; limits = limits; limit = limit }) result }
+        ensures { let asked : Asked = record {
+          name = name;
+          known = known;
+          need = need;
+          limits = limits;
+          limit = limit;
+        } in
+            StartAnswers D.state disk asked result }
     {
         let office = match Office::new(alloc, limits) {
             Ok(office) => office,
