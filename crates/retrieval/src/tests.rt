@@ -18,6 +18,11 @@ fn form_of(bytes: &[u8; 512], unlocked: Option<Day>, out: &mut [u8; 640]) -> Opt
     Some(form(Some(&Row { rec, unlocked }), tn, out))
 }
 
+// Whether the bytes begin with a text.
+fn begins(out: &[u8; 640], text: &[u8]) -> bool {
+    out.starts_with(text)
+}
+
 #[test]
 fn forms_of_numbers(rt: HostRuntime) -> Result<(), Fail> {
     let mut out = [0; 640];
@@ -26,7 +31,7 @@ fn forms_of_numbers(rt: HostRuntime) -> Result<(), Fail> {
     let want =
         b"TN 3035550100 CLASS 1 TYPE 0\nNAME JOHN SMITH\nADDR 100 MAIN ST\nCITY DENVER CO\nLOC\nESN CO ABC01 LOCKED\n";
     assert_eq!(rt; len, Some(want.len()));
-    assert_eq!(rt; out[..want.len()], *want.as_slice());
+    assert!(rt; begins(&out, want.as_slice()));
     // The longest, with a text in every column.
     let mut sent = SentRecord::new(b'I', b"3035550100", b"999999").bytes();
     put(&mut sent, 22, &[b'A'; 198]);
@@ -42,6 +47,6 @@ fn the_form_of_no_record(rt: HostRuntime) -> Result<(), Fail> {
     let want = b"TN 3035550100 NO RECORD FOUND\n";
     let len = Tn::read(b"3035550100").map(|tn| form(None, tn, &mut out));
     assert_eq!(rt; len, Some(want.len()));
-    assert_eq!(rt; out[..want.len()], *want.as_slice());
+    assert!(rt; begins(&out, want.as_slice()));
     Ok(())
 }
