@@ -4,6 +4,7 @@
 
 mod board;
 mod front;
+mod laws;
 mod named;
 mod pass;
 mod plays;
@@ -11,6 +12,7 @@ mod view;
 
 pub use board::Board;
 pub use front::{Front, MOST_BOOKED};
+pub use laws::limit_of_bookings;
 pub use named::{Booked, Named};
 pub use pass::{Main, Pass};
 pub use view::{BoardRule, BoardSeat, BoardTable, Role, View};

@@ -133,17 +133,32 @@ fn one_books_while_three_look(rt: HostRuntime) -> Result<(), Fail> {
     Ok(())
 }
 
+/// Loads by the first pass, copies it, and joins the copy to the second. What that gives tells the front that
+/// was loaded.
+fn loaded_and_joined(
+    board: &Board<Numbers>,
+    mut first: Pass<Numbers>,
+    second: Pass<Numbers>,
+) -> (Pass<Numbers>, Front)
+    requires { (first.board ≡ board.now) × (second.board ≡ board.now) }
+    ensures { result.0.front ≡ result.1 }
+{
+    let front = board.load(&mut first);
+    let copy = board.split_pass(&mut first);
+    (board.join(copy, second), front)
+}
+
 #[test]
 fn a_pass_tells_the_front_that_it_loaded_last(rt: HostRuntime) -> Result<(), Fail> {
     let (board, main) = Board::<Numbers>::new::<Brand>(rt.alloc(), FIRST, 0)?;
     let (mut main, _) = book_many(&board, main, 2);
     let mut early = board.split(&mut main);
-    let mut late = board.split_pass(&mut early);
+    let late = board.split_pass(&mut early);
     board.note(&mut main, SECOND);
     assert!(rt; main.duty() == SECOND);
-    assert!(rt; board.load(&mut late) == Front::under(&SECOND, 2));
     assert_eq!(rt; early.count(), 2);
-    let joined = board.join(early, late);
+    let (joined, front) = loaded_and_joined(&board, late, early);
+    assert!(rt; front == Front::under(&SECOND, 2));
     assert_eq!(rt; joined.count(), 2);
     Ok(())
 }

@@ -1,21 +1,11 @@
 -- Each step on the word of a guarded value keeps the rule.
 use Rattle.std.proofs.Common.{Some, ◌≡◌, ◌⊎◌, ℕ, zero, suc, List, [], ◌∷◌, length, set, true, refl, ap, sym, ◌∙◌, ⊎_elim, inl, inr, arith}
-use Rattle.std.proofs.Props.{props}
-use Rattle.std.proofs.lemmas.Bool.{and_parts, false≢true}
-use Rattle.std.proofs.lemmas.Bool.Decides.{nat_tests}
-use Rattle.std.specs.Prelude.{slice_index, ⊤, ◌==◌}
+use Rattle.std.specs.Prelude.{slice_index, ⊤}
 use mathlib.Core.Option.{Option, none, some, some-ne-none, some-injective}
 use lib.ListN.{get_elem?}
 use Rattle.atomic_table.specs.Table.{Me, step, takes, keeps, gives, rest, put_back, Final, Allows, Enters, Arrives}
 use Rattle.atomic_table.specs.Seated.{TableId}
-use Rattle.locks.specs.SlotRule.{Holds, took, gave, is_held}
-
-pub same_number : (a b : ℕ) → (a == b) ≡ true → a ≡ b
-same_number a b e = grind (arith, nat_tests)
-
--- two proofs that two tables are one are the same
-pub table_set : IsSet TableId
-table_set = hlevel props
+use Rattle.locks.specs.SlotRule.{Holds, took, gave}
 
 word_at : (words : List ℕ) (n : ℕ) → get_elem? words 0 ≡ some n → slice_index words 0 ≡ n
 word_at [] n at = absurd (some-ne-none n (sym at))
@@ -31,12 +21,6 @@ not_one [] e = omega (arith, e)
 not_one (x ∷ words) e = omega (arith, e)
 
 module _ {T : Type 0} where
-  -- a seat that has the slot has its value, and nothing else
-  pub held_is : (held : List (ℕ × T)) → is_held held ≡ true → (x : T) × (held ≡ (0, x) ∷ [])
-  held_is [] on = absurd (false≢true on)
-  held_is (y ∷ z ∷ more) on = absurd (let none_left : suc (length more) ≡ 0 = same_number (suc (length more)) 0 (and_parts _ _ on).1 in omega (arith, none_left))
-  held_is (y ∷ []) on = (y.1, ap (λ (k : ℕ). (k, y.1) ∷ []) (same_number y.0 0 (and_parts _ _ on).0))
-
   one_home : (homes : List (Option T)) (x : T) → length homes ≡ 1 → set homes 0 (some x) ≡ some x ∷ []
   one_home [] x e = absurd (omega (arith, e))
   one_home (h ∷ []) x e = refl

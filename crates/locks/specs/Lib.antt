@@ -1,3 +1,4 @@
 pub mod LockTelling
 pub mod SlotRule
+pub mod HeldWrites
 pub mod SmallBookings

@@ -1,5 +1,5 @@
 -- The rule of a guarded value's word and slot, and what its steps tell.
-use Rattle.std.specs.Prelude.{◌≡◌, ℕ, ◌==◌, ◌&&◌, Bool, false, Option, None, Some, List, [], ◌∷◌, length, slice_index}
+use Rattle.std.specs.Prelude.{◌≡◌, ℕ, ◌==◌, ◌&&◌, Bool, false, Option, None, Some, List, [], ◌∷◌, length, slice_index, if◌then◌else◌}
 use mathlib.Core.Option.{some}
 use Rattle.atomic_table.specs.Table.{State, Me, Step, rest}
 use Rattle.atomic_table.specs.Seated.{TableId}
@@ -26,7 +26,7 @@ module _ {T : Type 0} where
   abbrev pub is_held : List (ℕ × T) → Bool
   is_held held = took_last held && (length (rest held) == 0)
 
-  -- the value that it has, where it has one
-  abbrev pub held_value : List (ℕ × T) → Option T
-  held_value [] = None
-  held_value (x ∷ more) = Some x.1
+  -- the value that it has, where it has the one slot
+  abbrev pub told : List (ℕ × T) → Option T
+  told [] = None
+  told (x ∷ more) = if is_held (x ∷ more) then Some x.1 else None

@@ -1,5 +1,5 @@
 //! A lock that owns what it keeps.
-ghost use Rattle.std.specs.Prelude.{◌≡◌, false};
+ghost use Rattle.std.specs.Prelude.{◌≡◌, false, Some};
 
 use crate::lock::{Lock, OfBoard};
 use std::sync::Wait;
@@ -7,14 +7,16 @@ use std::sync::Wait;
 /// A lock for one owner. It always tells what it keeps, and never waits.
 #[derive(Drop)]
 pub struct OwnLock<T> {
-    pub kept: T,
-    pub entered: bool,
+    kept: T,
+    entered: bool,
 }
 
 impl<T: OfBoard> OwnLock<T> {
     /// A lock that is not entered.
     pub fn new(kept: T) -> OwnLock<T>
-        ensures { (result.kept ≡ kept) × (result.entered ≡ false) }
+        ensures entered { ⟦<OwnLock<T> as Lock<T>>⟧.entered result ≡ false }
+        ensures kept { ⟦<OwnLock<T> as Lock<T>>⟧.tells result ≡ Some kept }
+        ensures board { ⟦<OwnLock<T> as Lock<T>>⟧.board result ≡ T.board kept }
     {
         OwnLock {
             kept,
@@ -24,8 +26,9 @@ impl<T: OfBoard> OwnLock<T> {
 
     /// What it keeps.
     pub fn into_kept(self) -> T
-        requires { self.entered ≡ false }
-        ensures { result ≡ self.kept }
+        requires { ⟦<OwnLock<T> as Lock<T>>⟧.entered self ≡ false }
+        ensures kept { ⟦<OwnLock<T> as Lock<T>>⟧.tells self ≡ Some result }
+        ensures board { ⟦<OwnLock<T> as Lock<T>>⟧.board self ≡ T.board result }
     {
         let OwnLock { kept, entered: _ } = self;
         kept
@@ -33,7 +36,7 @@ impl<T: OfBoard> OwnLock<T> {
 }
 
 impl<T: OfBoard> Lock<T> for OwnLock<T> {
-    ghost use Rattle.std.specs.Prelude.{true, Some, refl};
+    ghost use Rattle.std.specs.Prelude.{true, refl};
 
     ghost entered = { λ l. l.entered };
 

@@ -1,5 +1,6 @@
 //! A lock that threads share.
-ghost use Rattle.std.specs.Prelude.{◌≡◌, [], ◌∷◌, false};
+ghost use Rattle.std.specs.Prelude.{◌≡◌, [], ◌∷◌, false, is_some};
+ghost use Rattle.locks.specs.SlotRule.{is_held};
 
 use crate::guarded::Guarded;
 use crate::lock::{Lock, OfBoard};
@@ -16,6 +17,7 @@ pub struct SharedLock<'h, T: OfBoard> {
     seat: Seat<T, Board<T::Entries>>,
     guard: Option<MutexGuard<'h, ()>>,
     ghost of_slot: { seat.table_id ≡ guarded.now.slot },
+    ghost guard_while_entered: { is_held seat.me.1 ≡ is_some guard },
 }
 
 impl<T: OfBoard> Guarded<T> {
@@ -50,19 +52,21 @@ impl<T: OfBoard> Guarded<T> {
 
 impl<'h, T: OfBoard> Lock<T> for SharedLock<'h, T> {
     ghost use Rattle.std.specs.Prelude.{refl};
-    ghost use Rattle.atomic_table.specs.Lent.{seat_with};
-    ghost use Rattle.locks.specs.SlotRule.{is_held, held_value};
-    ghost use Rattle.std.proofs.lemmas.Bool.{and_parts};
+    ghost use Rattle.locks.specs.SlotRule.{told};
+    ghost use Rattle.locks.specs.HeldWrites.{written_seat, written_on, told_written};
 
     ghost entered = { λ l. is_held l.seat.me.1 };
 
-    ghost tells = { λ l. held_value l.seat.me.1 };
+    ghost tells = { λ l. told l.seat.me.1 };
 
     ghost always = { false };
 
     ghost board = { λ l. l.guarded.now.board };
 
-    ghost with_kept = { λ l x. record l { seat = seat_with l.seat 0 x } };
+    ghost with_kept = { λ l x. record l {
+      seat = written_seat l.seat x;
+      guard_while_entered = written_on l.seat.me.1 x l.guard_while_entered;
+    } };
 
     fn enter<R: Wait>(&mut self, rt: &R) {
         let (guard, seat) = self.guarded.take(rt);
@@ -81,9 +85,9 @@ impl<'h, T: OfBoard> Lock<T> for SharedLock<'h, T> {
         self.guard = None;
     }
 
-    ghost with_entered = { λ s x on. (and_parts _ _ on).1 };
+    ghost with_entered = { λ s x on. written_on s.seat.me.1 x on };
 
-    ghost with_tells = { λ s x on. refl };
+    ghost with_tells = { λ s x on. told_written s.seat.me.1 x on };
 
     ghost with_board = { λ s x is. refl };
 }

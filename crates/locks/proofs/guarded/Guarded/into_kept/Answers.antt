@@ -1,5 +1,6 @@
 use Rattle.std.proofs.Common.{rules, ap, ◌∙◌}
-use Rattle.locks.proofs.SlotSteps.{same_number, settled}
+use Rattle.locks.proofs.SlotSteps.{settled}
+use Rattle.locks.proofs.HeldValues.{same_number}
 use Rattle.locks.proofs.guarded.Guarded.into_kept.Goals as goal
 
 pub returns-then-there : goal.returns-then-there

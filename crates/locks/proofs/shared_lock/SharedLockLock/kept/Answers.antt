@@ -1,8 +1,6 @@
 use Rattle.std.proofs.Common.{rules, ◌∷◌, refl, ap, sym, ◌∙◌}
-use Rattle.atomic_table.specs.Lent.{seat_with}
 use Rattle.atomic_table.specs.Table.{rest}
-use Rattle.locks.specs.SlotRule.{held_value}
-use Rattle.locks.proofs.SlotSteps.{table_set, held_is}
+use Rattle.locks.proofs.HeldValues.{held_is, told_held, written_held}
 use Rattle.locks.proofs.shared_lock.SharedLockLock.kept.Goals as goal
 
 pub slot_mut-requires : goal.slot_mut-requires
@@ -13,6 +11,6 @@ slot_mut-requires g c =
 pub returns : goal.returns
 returns g c =
     let it = c.args.self.now in (
-      (refl, λ w. ap (λ same. record { guarded = it.guarded; seat = seat_with it.seat 0 w; guard = it.guard; of_slot = same }) (table_set _ _ _ _)),
-      record { writes_back = tt; value = ap held_value c.slot_mut.ensures.value },
+      (refl, λ w. ap (λ held. record { guarded = it.guarded; seat = held.0; guard = it.guard; of_slot = held.1; guard_while_entered = held.2 }) (written_held it.seat w _ _ c.requires _ _ _ _)),
+      record { writes_back = tt; value = told_held it.seat.me.1 _ c.requires c.slot_mut.ensures.value },
     )
