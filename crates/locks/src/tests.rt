@@ -31,7 +31,8 @@ const FIRST: Duty = Duty {
     floor: 0,
 };
 
-/// Books so many entries under the hall's lock. The flag says that each number was above the one before.
+/// Books so many entries under one lock of the hall, which is entered and left each time. The flag says that
+/// each number was above the one before.
 fn book_many<R: Wait>(
     rt: &R,
     hall: &SmallHall<Numbers>,
@@ -40,10 +41,10 @@ fn book_many<R: Wait>(
     requires { pass.board ≡ hall.now.board }
     ensures { result.0.board ≡ hall.now.board }
 {
+    let mut lock = hall.lock();
     let mut rises = true;
     let mut last = 0;
     for _ in 0..BOOKED {
-        let mut lock = hall.lock();
         let (next, number) = book_under::<Numbers, Brand, _, R>(rt, &hall.board, &mut lock, pass);
         pass = next;
         rises = rises && number.is_some_and(|number| last < number && number <= pass.count());
