@@ -1,5 +1,5 @@
 -- What a seat that holds the one slot has and tells.
-use Rattle.std.proofs.Common.{Some, None, ◌≡◌, ℕ, suc, Bool, if◌then◌else◌, List, [], ◌∷◌, length, true, ap, sym, ◌∙◌, refl, arith}
+use Rattle.std.proofs.Common.{Some, ◌≡◌, ℕ, suc, Bool, List, [], ◌∷◌, length, true, ap, sym, ◌∙◌, arith}
 use Rattle.std.proofs.lemmas.Bool.{and_parts, false≢true}
 use Rattle.std.proofs.lemmas.Bool.Decides.{nat_tests}
 use Rattle.std.proofs.Props.{props}
