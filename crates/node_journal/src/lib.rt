@@ -18,8 +18,8 @@ pub use formatting::format;
 pub use frame::{LAST_EPOCH, MOST_FRAMES};
 pub use journal::Journal;
 pub use laws::{
-    an_image_is_read_one_way, bodies_are_read_as_written, frames_are_known_from_the_image,
-    limit_of_epochs, limit_of_frames,
+    an_image_is_read_one_way, bodies_are_read_as_written, frames_are_found_after_a_crash,
+    frames_are_known_from_the_image, limit_of_epochs, limit_of_frames,
 };
 
 #[cfg(test)]

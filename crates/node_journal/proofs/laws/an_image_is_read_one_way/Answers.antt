@@ -1,13 +1,10 @@
-use Rattle.std.proofs.Common.{inl, inr, ℕ, ◌^◌, ◌<◌, ◌≤◌, List, length, ap, subst, arith}
-use Rattle.std.specs.Prelude.{All}
+use Rattle.std.proofs.Common.{inl, inr, ℕ, List, length, ap, subst, arith}
 use Rattle.ali_base.specs.declared.names.NodeName.{NodeName}
 use Rattle.ali_base.specs.Fronts.{AreBytes}
 use Rattle.commit_log.specs.LogImage.{AreBodies}
 use Rattle.commit_log.specs.LogImage as log
-use Rattle.office_entry.specs.declared.entry.Entry.{Entry}
-use Rattle.pair_world.specs.Frames.{Frame}
 use Rattle.node_journal.specs.FrameBytes.{bodies_from, is_body}
-use Rattle.node_journal.specs.JournalImage.{StandsFor, StandsForSome, first_block}
+use Rattle.node_journal.specs.JournalImage.{StandsForSome, first_block}
 use Rattle.node_journal.proofs.Journals.{length-bodies, framed, image_bytes}
 use Rattle.node_journal.proofs.Represented.{length-first_block}
 use Rattle.node_journal.proofs.laws.an_image_is_read_one_way.Goals as goal

@@ -1,4 +1,4 @@
-use Rattle.std.proofs.Common.{◌≡◌, ℕ, ◌≤◌, length, refl, sym, subst, ◌∙◌, arith}
+use Rattle.std.proofs.Common.{◌≡◌, refl, sym, subst, ◌∙◌, arith}
 use Rattle.commit_log.specs.OpenLog as log
 use Rattle.commit_log.specs.declared.opening.OpenFault.{OpenFault}
 use Rattle.commit_log.specs.declared.opening.OpenFault.TheVariants as failing
