@@ -23,4 +23,6 @@ pub use laws::{
 };
 
 #[cfg(test)]
+mod image_tests;
+#[cfg(test)]
 mod tests;

@@ -15,50 +15,55 @@ const RECORD: u64 = 16_384;
 // What a crash may leave of bytes that were not synced.
 const KEPT: [Kept; 4] = [Kept::Old, Kept::New, Kept::Fill(0), Kept::Fill(0xA5)];
 
-// An empty disk, of whose calls one fails; 0 for none.
-fn empty(alloc: Global, failing: u64) -> Result<MemDisk, NoMemory> {
+/// An empty disk, of whose calls one fails; 0 for none.
+pub fn empty(alloc: Global, failing: u64) -> Result<MemDisk, NoMemory> {
     MemDisk::new(alloc, ROOM, RECORD, vec![in alloc; failing]?)
 }
 
-// A disk with node a's journal without frames, on which 3 calls were made.
-fn formatted(alloc: Global, failing: u64) -> Result<MemDisk, NoMemory> {
+/// A disk with node a's journal without frames, on which 3 calls were made.
+pub fn formatted(alloc: Global, failing: u64) -> Result<MemDisk, NoMemory> {
     let mut disk = empty(alloc, failing)?;
     let _ = format(&mut disk, NodeName::A);
     Ok(disk)
 }
 
-// Node a's journal, of at most three frames.
-fn open<D: Disk + Drop>(alloc: Global, disk: D) -> Result<Journal<D>, JournalFault> {
+/// Node a's journal, of at most three frames.
+pub fn open<D: Disk + Drop>(alloc: Global, disk: D) -> Result<Journal<D>, JournalFault> {
     match Journal::open(alloc, disk, NodeName::A, 3) {
         Ok(journal) => Ok(journal),
         Err((_, fault)) => Err(fault),
     }
 }
 
-// How many frames a disk is found to have.
-fn found(alloc: Global, disk: MemDisk) -> Result<u32, JournalFault> {
+/// How many frames a disk is found to have.
+pub fn found(alloc: Global, disk: MemDisk) -> Result<u32, JournalFault> {
     Ok(open(alloc, disk)?.len())
 }
 
-// The first edit of an editor, which retires a range.
-fn entry(id: u32) -> Option<Entry> {
-    Some(Entry::Edit {
-        editor: Editor::new(1)?,
-        serial: Serial::new(1)?,
-        edit: Edit::Retire { id },
-    })
-}
-
-// Adds the entry that retires a range, where the journal is usable.
-fn add<D: Disk + Drop>(
+/// Adds the first edit of an editor, where the journal is usable.
+pub fn add_edit<D: Disk + Drop>(
     journal: &mut Journal<D>,
-    id: u32,
+    edit: Edit,
     epoch: u32,
 ) -> Option<Result<u32, AppendFault>> {
     if !journal.usable() || epoch < 1 || epoch > LAST_EPOCH {
         return None;
     }
-    Some(journal.append(&entry(id)?, epoch))
+    let entry = Entry::Edit {
+        editor: Editor::new(1)?,
+        serial: Serial::new(1)?,
+        edit,
+    };
+    Some(journal.append(&entry, epoch))
+}
+
+/// Adds the edit that retires a range, where the journal is usable.
+pub fn add<D: Disk + Drop>(
+    journal: &mut Journal<D>,
+    id: u32,
+    epoch: u32,
+) -> Option<Result<u32, AppendFault>> {
+    add_edit(journal, Edit::Retire { id }, epoch)
 }
 
 // Cuts the journal from a frame on, where it is usable and has that frame.
@@ -85,14 +90,33 @@ fn frame<D: Disk + Drop>(journal: &mut Journal<D>, k: u32) -> Option<(u32, u32)>
     }
 }
 
-// Node a's journal with two frames, on a disk that stops after so many calls.
-fn fused(alloc: Global, passed: u32) -> Result<Option<Journal<FuseDisk>>, NoMemory> {
+/// A disk with node a's journal of two frames.
+pub fn two_frames(alloc: Global) -> Result<Option<MemDisk>, NoMemory> {
     let Ok(mut journal) = open(alloc, formatted(alloc, 0)?) else {
         return Ok(None);
     };
     let _ = add(&mut journal, 7, 1);
     let _ = add(&mut journal, 8, 2);
-    Ok(open(alloc, FuseDisk::new(journal.close(), passed)).ok())
+    Ok(Some(journal.close()))
+}
+
+// Node a's journal with two frames, on a disk that stops after so many calls.
+fn fused(alloc: Global, passed: u32) -> Result<Option<Journal<FuseDisk>>, NoMemory> {
+    let Some(disk) = two_frames(alloc)? else {
+        return Ok(None);
+    };
+    Ok(open(alloc, FuseDisk::new(disk, passed)).ok())
+}
+
+/// Why the entry of a frame is not read, where the journal is usable and has that frame.
+pub fn read<D: Disk + Drop>(journal: &mut Journal<D>, k: u32) -> Option<Result<(), ReadFault>> {
+    if !journal.usable() || k < 1 || k > journal.len() {
+        return None;
+    }
+    match journal.read(k) {
+        Ok(_) => Some(Ok(())),
+        Err(fault) => Some(Err(fault)),
+    }
 }
 
 #[test]
@@ -256,40 +280,13 @@ fn a_journal_is_opened_again_in_place(rt: HostRuntime) -> Result<(), Fail> {
     Ok(())
 }
 
+// Opening makes a sync and a read.
 #[test]
-fn an_opening_is_refused(rt: HostRuntime) -> Result<(), Fail> {
-    let alloc = rt.alloc();
-    assert_eq!(rt; found(alloc, empty(alloc, 0)?), Err(JournalFault::Foreign));
-    assert_eq!(rt;
-        found(alloc, formatted(alloc, 4)?),
-        Err(JournalFault::DiskFault)
-    );
-    let mut again = formatted(alloc, 0)?;
-    assert_eq!(rt;
-        format(&mut again, NodeName::B),
-        Err(FormatFault::NotEmpty(640))
-    );
-    // Bytes at a place of the first block or of frame 1, which make it another one.
-    let table = [
-        (0, b"B".as_slice(), JournalFault::Foreign),
-        (16, b"b".as_slice(), JournalFault::Foreign),
-        (638, b"\x01".as_slice(), JournalFault::Foreign),
-        (643, b"\x02".as_slice(), JournalFault::Damaged(1)),
-        (647, b"\x00".as_slice(), JournalFault::Damaged(1)),
-        (645, b"\x40".as_slice(), JournalFault::Damaged(1)),
-        (648, b"X".as_slice(), JournalFault::Damaged(1)),
-        (649, b"\x41".as_slice(), JournalFault::Damaged(1)),
-        (1_278, b"\x01".as_slice(), JournalFault::Damaged(1)),
-        (1_279, b"\xA5".as_slice(), JournalFault::Damaged(2)),
-    ];
-    for (place, bytes, fault) in table {
-        let mut journal = open(alloc, formatted(alloc, 0)?)
-            .ok()
-            .expect(&rt, "it is opened");
-        assert_eq!(rt; add(&mut journal, 7, 1), Some(Ok(1)));
-        let mut disk = journal.close();
-        assert!(rt; disk.write_at(place, bytes).is_ok());
-        assert_eq!(rt; found(alloc, disk), Err(fault), "{place}");
-    }
+fn a_read_is_refused_where_the_disk_stopped(rt: HostRuntime) -> Result<(), Fail> {
+    let mut journal = fused(rt.alloc(), 3)?.expect(&rt, "it is opened");
+    assert_eq!(rt; read(&mut journal, 2), Some(Ok(())));
+    assert_eq!(rt; read(&mut journal, 2), Some(Err(ReadFault::DiskFault)));
+    assert!(rt; journal.usable());
+    assert_eq!(rt; journal.len(), 2);
     Ok(())
 }
