@@ -5,7 +5,7 @@ use Rattle.node_journal.specs.OpenJournal as journal
 use Rattle.node_journal.specs.declared.journal.Journal.{Journal}
 use Rattle.office_entry.specs.declared.entry.Entry.{Entry}
 use Rattle.office_state.specs.History as history
-use Rattle.office_state.specs.OfficeState.{OfficeState}
+use Rattle.office_state.specs.OfficeState.{OfficeState, empty_state, limits_of}
 use Rattle.office_state.specs.declared.limits.Limits.{Limits}
 use Rattle.pair_world.specs.Frames.{Frame, entries}
 use Rattle.pair_core.specs.declared.node.Node.{Node}
@@ -26,6 +26,10 @@ count_of node = journal.count_of (journal_of node)
 abbrev pub office_of : {D : Type 0} → Node D → OfficeState
 office_of node = node.office
 
+-- the table without entries, under the same limits
+abbrev pub emptied : OfficeState → OfficeState
+emptied office = record { state = empty_state (limits_of office.state); entries = 0 }
+
 -- how many entries its table has learned
 abbrev pub learned_of : {D : Type 0} → Node D → ℕ
 learned_of node = node.learned
@@ -34,7 +38,7 @@ learned_of node = node.learned
 abbrev pub known_of : {D : Type 0} → Node D → ℕ
 known_of node = node.known
 
--- whether its disk has not failed in any call
+-- whether, since its last start, it was not stopped and its disk has not failed in any call
 abbrev pub is_usable : {D : Type 0} → Node D → Bool
 is_usable node = node.usable
 

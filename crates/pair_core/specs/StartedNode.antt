@@ -1,18 +1,19 @@
--- When each answer of a start comes.
-use Rattle.std.specs.Prelude.{◌≡◌, ℕ, ◌<◌, ◌≤◌, true, List, [], length, Some, Result, Ok, Err}
+-- When each answer of a start comes, and of a start again in place.
+use Rattle.std.specs.Prelude.{◌≡◌, ◌≢◌, ℕ, ◌<◌, ◌≤◌, true, false, List, [], length, Some, Result, Ok, Err}
 use Rattle.ali_base.specs.Faults.{Rose}
 use Rattle.ali_base.specs.declared.names.NodeName.{NodeName}
 use Rattle.crash_disk.specs.CrashOutcomes.{Stays}
 use Rattle.crash_disk.specs.DiskState.{DiskState}
 use Rattle.node_journal.specs.JournalImage.{StandsFor, IsForeign, IsDamaged}
-use Rattle.node_journal.specs.OpenJournal.{IsOpened}
+use Rattle.node_journal.specs.OpenJournal.{IsOpened, IsFixed, name_of, limit_of}
 use Rattle.node_journal.specs.declared.faults.JournalFault.{JournalFault}
 use Rattle.node_journal.specs.declared.faults.JournalFault.TheVariants as opening
 use Rattle.office_entry.specs.declared.entry.Entry.{Entry}
 use Rattle.office_state.specs.History as history
+use Rattle.office_state.specs.OfficeState.{limits_of}
 use Rattle.office_state.specs.declared.limits.Limits.{Limits}
 use Rattle.pair_world.specs.Frames.{Frame}
-use Rattle.pair_core.specs.NodeState.{Represents, journal_of, count_of, office_of, learned_of, known_of, is_usable}
+use Rattle.pair_core.specs.NodeState.{Represents, journal_of, disk_of, count_of, office_of, emptied, learned_of, known_of, is_usable}
 use Rattle.pair_core.specs.declared.faults.StartFault.{StartFault}
 use Rattle.pair_core.specs.declared.faults.StartFault.TheVariants as starting
 use Rattle.pair_core.specs.declared.node.Node.{Node}
@@ -66,3 +67,32 @@ pub record IsRefused {D : Type 0} (state : D → DiskState) (disk : D) (asked : 
 abbrev pub StartAnswers : {D : Type 0} → (D → DiskState) → D → Asked → Result (Node D) (D × StartFault) → Type 0
 StartAnswers state disk asked (Ok node) = IsStarted state disk asked node
 StartAnswers state disk asked (Err e) = IsRefused state disk asked e.0 e.1
+
+-- what a node that starts again asks: its journal and its table keep their name and their limits
+abbrev pub asked_again : {D : Type 0} → Node D → ℕ → ℕ → Asked
+asked_again node known need =
+    let table = office_of node in record {
+      name = name_of (journal_of node);
+      known = known;
+      need = need;
+      limits = limits_of table.state;
+      limit = limit_of (journal_of node);
+    }
+
+-- The node has forgotten what it learned: its table is the empty one under the same limits. Name and limit of the journal stay.
+pub record HasForgotten {D : Type 0} (state : D → DiskState) (old new : Node D) : Type 0 where
+  pub fixed : IsFixed state (journal_of old) (journal_of new)
+  pub empty : office_of new ≡ emptied (office_of old)
+  pub history : history.ForgetsHistory (office_of old) (office_of new)
+  pub learned : learned_of new ≡ 0
+
+-- The answers of a start again: started as anew, or refused for the same causes but want of memory; then the node is not usable, and its epoch stays.
+abbrev pub AgainAnswers : {D : Type 0} → (D → DiskState) → Node D → Asked → Node D → Result (Unit {0}) StartFault → Type 0
+AgainAnswers state old asked new (Ok x) = IsStarted state (disk_of old) asked new
+AgainAnswers state old asked new (Err fault) =
+    IsRefused state (disk_of old) asked (disk_of new) fault × (fault ≢ starting.NoMemory) × (is_usable new ≡ false) × (known_of new ≡ known_of old)
+
+-- when each answer of a start again comes, and what is forgotten whatever the answer
+pub record RestartAnswers {D : Type 0} (state : D → DiskState) (old new : Node D) (known need : ℕ) (result : Result (Unit {0}) StartFault) : Type 0 where
+  pub answer : AgainAnswers state old (asked_again old known need) new result
+  pub forgotten : HasForgotten state old new

@@ -6,11 +6,10 @@ use Rattle.node_journal.specs.FrameBytes.{IsEpoch}
 use Rattle.node_journal.specs.OpenJournal as journal
 use Rattle.node_journal.specs.declared.faults.DiskFault.{DiskFault}
 use Rattle.office_entry.specs.declared.entry.Entry.{Entry}
-use Rattle.office_state.specs.OfficeState.{OfficeState, empty_state, limits_of}
 use Rattle.pair_world.specs.Deliveries.{answer, journal_after, reply_to, journal_left, known_left}
 use Rattle.pair_world.specs.Frames.{Frame, epochs}
 use Rattle.pair_core.specs.Messages.{as_told, as_delivered}
-use Rattle.pair_core.specs.NodeState.{disk_of, journal_of, count_of, office_of, learned_of, known_of, is_usable}
+use Rattle.pair_core.specs.NodeState.{disk_of, journal_of, count_of, office_of, emptied, learned_of, known_of, is_usable}
 use Rattle.pair_core.specs.WrittenFrame.{Becomes, CrashesBetween}
 use Rattle.pair_core.specs.declared.message.Delivered.{Delivered}
 use Rattle.pair_core.specs.declared.message.Message.{Message}
@@ -32,10 +31,6 @@ abbrev pub ChangeAnswers : {D T : Type 0} → (D → DiskState) → (List (Frame
 ChangeAnswers state change old new (Ok x) =
     ((frames : List (Frame Entry)) → HasEpochs old frames → HasEpochs new (change frames)) × (is_usable new ≡ true)
 ChangeAnswers state change old new (Err e) = Rose (state (disk_of old)).faults (state (disk_of new)).faults × (is_usable new ≡ false)
-
--- the table without entries, under the same limits
-abbrev pub emptied : OfficeState → OfficeState
-emptied office = record { state = empty_state (limits_of office.state); entries = 0 }
 
 -- The journal is changed, or its disk failed. A crash at any moment leaves the frames from before or the changed ones.
 pub record Changes {D T : Type 0} (state : D → DiskState) (change : List (Frame Entry) → List (Frame Entry)) (old new : Node D) (result : Result T DiskFault) : Type 0 where

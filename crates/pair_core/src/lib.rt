@@ -5,6 +5,7 @@ mod faults;
 mod learning;
 mod message;
 mod node;
+mod restarting;
 mod sending;
 mod storing;
 

@@ -81,7 +81,7 @@ impl<D: Disk + Drop> Node<D> {
         self.journal.close()
     }
 
-    /// False once a call of the node was refused by the disk. Then it is closed.
+    /// False once it was stopped or a call was refused by its disk, until it starts again.
     pub fn usable(&self) -> bool
         ensures { result ≡ is_usable self.now }
     {

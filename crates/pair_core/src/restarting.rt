@@ -1,0 +1,39 @@
+//! A node stops, and starts again in place.
+ghost use Rattle.std.specs.Prelude.{◌≡◌, false};
+
+use crate::faults::{StartFault, refusal};
+use crate::node::Node;
+use crash_disk::Disk;
+
+impl<D: Disk + Drop> Node<D> {
+    ghost use Rattle.pair_core.specs.StartedNode.{RestartAnswers};
+
+    /// Stops it: it is not usable until it is started again.
+    pub fn stop(&mut self)
+        ensures { self.new ≡ record self.old { usable = false } }
+    {
+        self.usable = false;
+    }
+
+    /// Starts it again over its disk, as `start` does after `close`, with the same name and limits,
+    /// usable or not. It forgets what it learned. Where it is refused, it is not usable. It takes no
+    /// memory.
+    pub fn restart(&mut self, known: u32, need: u32) -> Result<(), StartFault>
+        ensures { RestartAnswers D.state self.old self.new known need result }
+    {
+        self.stop();
+        self.office.clear();
+        self.learned = 0;
+        match self.journal.reopen() {
+            Ok(()) => {}
+            Err(fault) => return Err(refusal(fault)),
+        }
+        let have = self.journal.len();
+        if have < need {
+            return Err(StartFault::Short { have, need });
+        }
+        self.known = known;
+        self.usable = true;
+        Ok(())
+    }
+}
