@@ -1,4 +1,4 @@
--- When each answer of a start comes, and of a start again in place.
+-- When each answer of a start comes; a stop, and a start again in place.
 use Rattle.std.specs.Prelude.{◌≡◌, ◌≢◌, ℕ, ◌<◌, ◌≤◌, true, false, List, [], length, Some, Result, Ok, Err}
 use Rattle.ali_base.specs.Faults.{Rose}
 use Rattle.ali_base.specs.declared.names.NodeName.{NodeName}
@@ -67,6 +67,14 @@ pub record IsRefused {D : Type 0} (state : D → DiskState) (disk : D) (asked : 
 abbrev pub StartAnswers : {D : Type 0} → (D → DiskState) → D → Asked → Result (Node D) (D × StartFault) → Type 0
 StartAnswers state disk asked (Ok node) = IsStarted state disk asked node
 StartAnswers state disk asked (Err e) = IsRefused state disk asked e.0 e.1
+
+-- Stopped: the node is not usable, and nothing else changes.
+pub record IsStopped {D : Type 0} (old new : Node D) : Type 0 where
+  pub usable : is_usable new ≡ false
+  pub journal : journal_of new ≡ journal_of old
+  pub office : office_of new ≡ office_of old
+  pub learned : learned_of new ≡ learned_of old
+  pub known : known_of new ≡ known_of old
 
 -- what a node that starts again asks: its journal and its table keep their name and their limits
 abbrev pub asked_again : {D : Type 0} → Node D → ℕ → ℕ → Asked

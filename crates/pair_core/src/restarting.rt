@@ -1,16 +1,15 @@
 //! A node stops, and starts again in place.
-ghost use Rattle.std.specs.Prelude.{◌≡◌, false};
 
 use crate::faults::{StartFault, refusal};
 use crate::node::Node;
 use crash_disk::Disk;
 
 impl<D: Disk + Drop> Node<D> {
-    ghost use Rattle.pair_core.specs.StartedNode.{RestartAnswers};
+    ghost use Rattle.pair_core.specs.StartedNode.{IsStopped, RestartAnswers};
 
     /// Stops it: it is not usable until it is started again.
     pub fn stop(&mut self)
-        ensures { self.new ≡ record self.old { usable = false } }
+        ensures { IsStopped self.old self.new }
     {
         self.usable = false;
     }
@@ -21,7 +20,7 @@ impl<D: Disk + Drop> Node<D> {
     pub fn restart(&mut self, known: u32, need: u32) -> Result<(), StartFault>
         ensures { RestartAnswers D.state self.old self.new known need result }
     {
-        self.stop();
+        self.usable = false;
         self.office.clear();
         self.learned = 0;
         match self.journal.reopen() {
