@@ -7,7 +7,7 @@ use Rattle.node_journal.specs.declared.faults.ReadFault.{ReadFault}
 use Rattle.node_journal.specs.declared.faults.ReadFault.TheVariants as reading
 use Rattle.office_entry.specs.declared.entry.Entry.{Entry}
 use Rattle.pair_world.specs.Deliveries as deliveries
-use Rattle.pair_world.specs.Frames.{Frame}
+use Rattle.pair_world.specs.Frames.{Frame, epochs, epoch_at}
 use Rattle.pair_core.specs.NodeState.{disk_of, journal_of, count_of, office_of, learned_of, known_of, is_usable}
 use Rattle.pair_core.specs.LearnedEntries.{IsEntryAt, IsGone}
 use Rattle.pair_core.specs.declared.message.Ack.{Ack}
@@ -50,11 +50,12 @@ Tells state node k (telling.Entry epoch entry) =
     (k ≤ count_of node) × (epoch ≡ slice_index (journal.epochs_of (journal_of node)) (k - 1)) × IsEntryAt state (journal_of node) k entry
 Tells state node k telling.End = k ≡ count_of node + 1
 
--- Message k of a node: it has this number and this epoch, tells frame k or the end, and is the message that is made from the frames that the journal represents.
+-- Message k of a node: it has this number and this epoch, tells frame k or the end, has the epoch of the frame before as the journal knows it, and is the message that is made from the frames that the journal represents.
 pub record IsMessage {D : Type 0} (state : D → DiskState) (node : Node D) (k epoch : ℕ) (m : Message) : Type 0 where
   pub number : m.number ≡ k
   pub present : m.epoch ≡ epoch
   pub what : Tells state node k m.what
+  pub before : (frames : List (Frame Entry)) → epochs frames ≡ journal.epochs_of (journal_of node) → m.before ≡ epoch_at frames (k - 1)
   pub told : (frames : List (Frame Entry)) → journal.Represents state (journal_of node) frames → as_told m ≡ deliveries.message_from epoch frames k
 
 -- When each answer of making message k comes: a failure only where the disk's faults rose; a change only where another body is there, so never on an honest disk.

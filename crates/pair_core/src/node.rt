@@ -3,6 +3,7 @@ ghost use Rattle.std.specs.Prelude.{◌≡◌, ◌≤◌, true};
 ghost use Rattle.node_journal.specs.FrameBytes.{IsEpoch};
 ghost use Rattle.node_journal.specs.JournalState.{with_frame};
 ghost use Rattle.node_journal.specs.OpenJournal as journals;
+ghost use Rattle.node_journal.specs.declared.frame.TheConstants.{MOST_FRAMES};
 
 use crate::faults::{StartFault, refusal};
 use ali_base::{NoMemory, NodeName};
@@ -20,7 +21,7 @@ pub struct Node<D> {
     pub(crate) learned: u32,
     pub(crate) known: u32,
     pub(crate) usable: bool,
-    ghost few: { journals.limit_of journal ≤ 1_000_000 },
+    ghost few: { journals.limit_of journal ≤ MOST_FRAMES },
     ghost within: { journals.count_of journal ≤ journals.limit_of journal },
     ghost behind: { learned ≤ journals.count_of journal },
     ghost entries: { office.entries ≡ learned },
@@ -43,7 +44,7 @@ impl<D: Disk + Drop> Node<D> {
         limits: Limits,
         limit: u32,
     ) -> Result<Node<D>, (D, StartFault)>
-        requires { limit ≤ 1_000_000 }
+        requires { limit ≤ MOST_FRAMES }
         ensures { let asked : Asked = record {
           name = name;
           known = known;
