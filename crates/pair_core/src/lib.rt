@@ -13,3 +13,6 @@ pub use faults::{LearnFault, StartFault};
 pub use message::{Ack, Delivered, Message, What};
 pub use node::Node;
 pub use node_journal::{AppendFault, DiskFault, ReadFault};
+
+#[cfg(test)]
+mod tests;
