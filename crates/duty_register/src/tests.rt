@@ -21,6 +21,14 @@ const FIRST: Duty = Duty {
     floor: 0,
 };
 
+// The duty behind it, where the holder goes on alone.
+const ALONE: Duty = Duty {
+    epoch: 2,
+    holder: NodeName::A,
+    mode: Mode::Alone,
+    floor: 7,
+};
+
 // A change of duty.
 #[derive(Clone, Copy)]
 enum Change {
@@ -150,56 +158,86 @@ fn the_last_epoch_ends_the_changes(rt: HostRuntime) -> Result<(), Fail> {
     Ok(())
 }
 
-// The duty that a disk has after a change of the first duty, alone or of both nodes, that stopped
-// after so many of its calls: a write of the body, a sync, a write of the commit byte, and a sync.
+// A register on a disk that stops after so many calls: with the first duty, or with the one after
+// it where both nodes are to be in step again.
+fn fused(alloc: Global, made: Change, passed: u32) -> Result<Option<Register<FuseDisk>>, NoMemory> {
+    let Ok(mut register) = open(formatted(alloc, 0)?) else {
+        return Ok(None);
+    };
+    if matches!(made, Change::Pair(_)) {
+        let _ = changed(&mut register, Change::Alone(7));
+    }
+    Ok(open(FuseDisk::new(register.close(), passed)).ok())
+}
+
+// Whether a change that stopped after so many of its calls lasts: a write of the body, a sync, a
+// write of the commit byte, and a sync.
+fn lasts(passed: u32, kept: Kept) -> bool {
+    match (passed, kept) {
+        (3, Kept::New) => true,
+        (3, Kept::Fill(0xA5)) => true,
+        (4, _) => true,
+        _ => false,
+    }
+}
+
+// Each change of duty, and the duties before and after it.
+const CHANGES: [(Change, Duty, Duty); 3] = [
+    (
+        Change::Take(NodeName::B, 7),
+        FIRST,
+        Duty {
+            epoch: 2,
+            holder: NodeName::B,
+            mode: Mode::Alone,
+            floor: 7,
+        },
+    ),
+    (Change::Alone(7), FIRST, ALONE),
+    (
+        Change::Pair(8),
+        ALONE,
+        Duty {
+            epoch: 3,
+            holder: NodeName::A,
+            mode: Mode::Both,
+            floor: 8,
+        },
+    ),
+];
+
+// What a register tells of a change that stopped after so many calls: what it answers, and the duty.
+#[test]
+fn a_change_that_stops_leaves_the_duty_that_is_told(rt: HostRuntime) -> Result<(), Fail> {
+    for (made, before, after) in CHANGES {
+        for passed in 0..5u32 {
+            // Opening makes a sync and a read.
+            let mut register = fused(rt.alloc(), made, 2 + passed)?.expect(&rt, "it is opened");
+            let (wanted, told) = if passed == 4 {
+                (Ok(after), after)
+            } else {
+                (Err(DutyFault::DiskFault), before)
+            };
+            assert_eq!(rt; changed(&mut register, made), Some(wanted));
+            assert_eq!(rt; register.usable(), passed == 4);
+            assert_eq!(rt; register.duty(), told);
+            assert_eq!(rt; register.reopen(), Err(RegisterFault::DiskFault));
+            assert_eq!(rt; register.duty(), told);
+        }
+    }
+    Ok(())
+}
+
 #[test]
 fn a_crash_leaves_the_duty_before_or_after(rt: HostRuntime) -> Result<(), Fail> {
     let alloc = rt.alloc();
-    let alone = duty(2, NodeName::A, Mode::Alone, 7);
-    let changes = [
-        (
-            false,
-            Change::Take(NodeName::B, 7),
-            FIRST,
-            duty(2, NodeName::B, Mode::Alone, 7),
-        ),
-        (false, Change::Alone(7), FIRST, alone),
-        (
-            true,
-            Change::Pair(8),
-            alone,
-            duty(3, NodeName::A, Mode::Both, 8),
-        ),
-    ];
-    for (prepared, made, before, after) in changes {
+    for (made, before, after) in CHANGES {
         for passed in 0..5u32 {
             for kept in KEPT {
-                let mut register = open(formatted(alloc, 0)?).ok().expect(&rt, "it is opened");
-                if prepared {
-                    assert_eq!(rt; changed(&mut register, Change::Alone(7)), Some(Ok(alone)));
-                }
-                // Opening makes a sync and a read.
-                let disk = FuseDisk::new(register.close(), 2 + passed);
-                let mut register = open(disk).ok().expect(&rt, "it is opened");
-                let wanted = if passed == 4 {
-                    Ok(after)
-                } else {
-                    Err(DutyFault::DiskFault)
-                };
-                assert_eq!(rt; changed(&mut register, made), Some(wanted));
-                assert_eq!(rt; register.usable(), passed == 4);
-                let told = if passed == 4 { after } else { before };
-                assert_eq!(rt; register.duty(), told);
-                assert_eq!(rt; register.reopen(), Err(RegisterFault::DiskFault));
-                assert_eq!(rt; register.duty(), told);
-                let lasts = match (passed, kept) {
-                    (3, Kept::New) => true,
-                    (3, Kept::Fill(0xA5)) => true,
-                    (4, _) => true,
-                    _ => false,
-                };
+                let mut register = fused(alloc, made, 2 + passed)?.expect(&rt, "it is opened");
+                let _ = changed(&mut register, made);
                 let left = register.close().inner().after_crash(kept)?;
-                let there = if lasts { after } else { before };
+                let there = if lasts(passed, kept) { after } else { before };
                 assert_eq!(rt; found(left), Ok(there), "{passed}");
             }
         }
@@ -285,6 +323,41 @@ fn an_opening_is_refused(rt: HostRuntime) -> Result<(), Fail> {
         let mut disk = register.close();
         assert!(rt; disk.write_at(place, bytes).is_ok());
         assert_eq!(rt; found(disk), Err(fault), "{place}");
+    }
+    Ok(())
+}
+
+// What the front of a disk with two changes is found to be, up to a place.
+fn found_up_to(alloc: Global, end: usize) -> Result<Option<Result<Duty, RegisterFault>>, NoMemory> {
+    let Ok(mut register) = open(formatted(alloc, 0)?) else {
+        return Ok(None);
+    };
+    let _ = changed(&mut register, Change::Alone(7));
+    let _ = changed(&mut register, Change::Pair(8));
+    let disk = register.close();
+    let Some(front) = disk.bytes().get(..end) else {
+        return Ok(None);
+    };
+    let mut left = empty(alloc, 0)?;
+    let _ = left.write_at(0, front);
+    Ok(Some(found(left)))
+}
+
+// Where the image ends: behind a frame, behind its body, inside it, and behind its commit byte.
+#[test]
+fn a_frame_that_is_cut_off_is_damaged(rt: HostRuntime) -> Result<(), Fail> {
+    let table = [
+        (96, Ok(duty(3, NodeName::A, Mode::Both, 8))),
+        (95, Err(RegisterFault::Damaged(2))),
+        (70, Err(RegisterFault::Damaged(2))),
+        (64, Err(RegisterFault::Damaged(2))),
+        (63, Err(RegisterFault::Damaged(1))),
+        (33, Err(RegisterFault::Damaged(1))),
+        (32, Err(RegisterFault::Damaged(1))),
+        (31, Err(RegisterFault::Foreign)),
+    ];
+    for (end, wanted) in table {
+        assert_eq!(rt; found_up_to(rt.alloc(), end)?, Some(wanted), "{end}");
     }
     Ok(())
 }
