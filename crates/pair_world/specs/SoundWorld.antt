@@ -102,9 +102,9 @@ pub record HasFloors {E : Type 0} (w : Resolved E) : Type 0 where
   pub never_fall : FloorsRise w.duty w.past
   pub below : w.duty.floor ≤ length w.booked
 
--- The duties begin with that of formatted disks, and each has the epoch of the one before and one.
+-- The duties begin with one of the first epoch, and each has the epoch of the one before and one.
 abbrev pub AreCounted : Duty → List Duty → Type 0
-AreCounted duty [] = duty ≡ first_duty
+AreCounted duty [] = duty.epoch ≡ first_duty.epoch
 AreCounted duty (before ∷ past) = (duty.epoch ≡ suc before.epoch) × AreCounted before past
 
 -- The parts of the invariant.
