@@ -1,0 +1,5 @@
+pub mod Rows
+pub mod Legality
+pub mod Items
+pub mod Events
+pub mod Steps
