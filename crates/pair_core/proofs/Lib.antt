@@ -1,3 +1,9 @@
 mod Learned
 mod Changed
 mod Decided
+mod LoneWorlds
+mod LoneShown
+mod LoneLearned
+mod LoneRows
+mod LoneWritten
+mod LoneStarted

@@ -7,7 +7,9 @@ use Rattle.node_journal.specs.declared.journal.Journal.{Journal}
 use Rattle.office_entry.specs.declared.entry.Entry.{Entry}
 use Rattle.office_state.specs.Due.{IsDue}
 use Rattle.office_state.specs.History.{KeepsHistory}
+use Rattle.office_state.specs.Verdict.{verdict}
 use Rattle.office_state.specs.declared.limits.Limits.{Limits}
+use Rattle.office_state.specs.declared.verdict.Verdict.{Verdict}
 use Rattle.pair_world.specs.Frames.{Frame}
 use Rattle.pair_core.specs.NodeState.{Represents, disk_of, journal_of, office_of, learned_of, known_of, is_usable}
 use Rattle.pair_core.specs.declared.faults.LearnFault.{LearnFault}
@@ -44,9 +46,15 @@ Fails state old new (learning.Changed k) = (k ≡ learned_of new + 1) × IsGone 
 Fails state old new (learning.NotDue k) = (k ≡ learned_of new + 1) × IsNotDueAt state old new k × (is_usable new ≡ true)
 Fails state old new learning.NoMemory = is_usable new ≡ true
 
--- When each answer of a step comes.
-abbrev pub NextAnswers : {D : Type 0} → (D → DiskState) → Node D → Node D → Result (Unit {0}) LearnFault → Type 0
-NextAnswers state old new (Ok x) = (learned_of new ≡ learned_of old + 1) × (is_usable new ≡ true)
+-- it is the verdict of entry k of the journal in this table
+abbrev pub IsVerdictAt : {D : Type 0} → (D → DiskState) → Node D → ℕ → Verdict → Type 0
+IsVerdictAt state node k v =
+    let table = office_of node in
+    (entry : Entry) × IsEntryAt state (journal_of node) k entry × (v ≡ verdict table.state entry)
+
+-- When each answer of a step comes. On success it is the verdict of the entry that is learned, in the table of those before it.
+abbrev pub NextAnswers : {D : Type 0} → (D → DiskState) → Node D → Node D → Result Verdict LearnFault → Type 0
+NextAnswers state old new (Ok v) = (learned_of new ≡ learned_of old + 1) × (is_usable new ≡ true) × IsVerdictAt state old (learned_of old + 1) v
 NextAnswers state old new (Err fault) = (learned_of new ≡ learned_of old) × Fails state old new fault
 
 -- When each answer of learning up to a number comes: all of them are learned, or it ends before.

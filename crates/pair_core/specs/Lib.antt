@@ -5,3 +5,5 @@ pub mod LearnedEntries
 pub mod Messages
 pub mod StoredMessage
 pub mod Decisions
+pub mod LoneNode
+pub mod LoneAnswers

@@ -6,7 +6,7 @@ use crate::node::Node;
 use crash_disk::Disk;
 use node_journal::ReadFault;
 use office_entry::Entry;
-use office_state::ApplyFault;
+use office_state::{ApplyFault, Verdict};
 
 impl<D: Disk + Drop> Node<D> {
     ghost use Rattle.pair_core.specs.NodeState.{count_of, learned_of, is_usable};
@@ -26,8 +26,8 @@ impl<D: Disk + Drop> Node<D> {
         Ok(())
     }
 
-    // Learns the entry after those that are learned.
-    fn learn_next(&mut self) -> Result<(), LearnFault>
+    /// Learns the entry after those that are learned, and answers its verdict.
+    pub(crate) fn learn_next(&mut self) -> Result<Verdict, LearnFault>
         requires usable { is_usable self.old ≡ true }
         requires more { learned_of self.old < count_of self.old }
         ensures answer { NextAnswers D.state self.old self.new result }
@@ -36,9 +36,9 @@ impl<D: Disk + Drop> Node<D> {
         let next = self.learned + 1;
         match self.journal.read(next) {
             Ok(entry) => match self.office.apply(&entry) {
-                Ok(_) => {
+                Ok(verdict) => {
                     self.learned = next;
-                    Ok(())
+                    Ok(verdict)
                 }
                 Err(ApplyFault::NotDue(_)) => Err(LearnFault::NotDue(next)),
                 Err(ApplyFault::NoMemory) => Err(LearnFault::NoMemory),
