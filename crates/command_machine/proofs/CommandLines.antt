@@ -13,9 +13,9 @@ use Rattle.text_line.proofs.Splits.{Clear, Clear-append, split_again, split_none
 use Rattle.command_machine.specs.Commands.{IsAsk}
 use Rattle.command_machine.specs.declared.command.TheConstants.{FILE_LIMIT}
 use Rattle.command_machine.specs.CommandText.{ask_text, file_text, IsEditLine, SpellsLine}
-use Rattle.command_machine.specs.LineReading.{file_of, edit_of, word_alone, by_word, line_in, line_of}
+use Rattle.command_machine.specs.LineReading.{file_of, of_node, word_alone, by_word, line_in, line_of}
 use Rattle.command_machine.specs.declared.command_line.CommandLine.{CommandLine}
-use Rattle.command_machine.specs.declared.command_line.CommandLine.TheVariants.{Ask, File, Edit, Next, Batch}
+use Rattle.command_machine.specs.declared.command_line.CommandLine.TheVariants.{Ask, File, Edit, Next, Batch, Stop, Start}
 use Rattle.command_machine.proofs.AskTexts.{ask_words, ask_of-text, ask-ask_of, tn_clear, tn_of-number}
 use Rattle.command_machine.proofs.EditTexts.{edit_words, edit_of-text, text-edit_of, text_clear}
 
@@ -43,6 +43,8 @@ line_clear text (File len) is = subst (Clear 10) (sym is.1) (file_clear len is.0
 line_clear text (Edit editor serial edit) is = edit_clear text editor serial is.0 is.2 (text_clear is.0 edit is.1)
 line_clear text Next is = subst (Clear 10) (sym is) (refl, (refl, (refl, (refl, tt))))
 line_clear text Batch is = subst (Clear 10) (sym is) (refl, (refl, (refl, (refl, (refl, tt)))))
+line_clear text Stop is = subst (Clear 10) (sym is) (refl, (refl, (refl, (refl, (refl, (refl, tt))))))
+line_clear text Start is = subst (Clear 10) (sym is) (refl, (refl, (refl, (refl, (refl, (refl, (refl, tt)))))))
 
 -- a line is read by its first word
 
@@ -68,6 +70,8 @@ line_of-spelled text (Edit editor serial edit) is =
     by_parts text (codes "EDIT") (edit_words editor serial is.0) (refl, (refl, (refl, (refl, tt)))) is.2.line_is ∙ edit_of-text editor serial edit is.0 is.2.editor_is is.2.serial_is is.1
 line_of-spelled text Next is = ap line_of is ∙ alone (codes "NEXT") (refl, (refl, (refl, (refl, tt))))
 line_of-spelled text Batch is = ap line_of is ∙ alone (codes "BATCH") (refl, (refl, (refl, (refl, (refl, tt)))))
+line_of-spelled text Stop is = by_parts text (codes "STOP") (codes "a") (refl, (refl, (refl, (refl, tt)))) is
+line_of-spelled text Start is = by_parts text (codes "START") (codes "a") (refl, (refl, (refl, (refl, (refl, tt))))) is
 
 -- a word is this one, or another
 this_word : {A : Type 0} (text word : List ℕ) (x y z : A) → cond (bytes_eq text word) x y ≡ z → ((text ≡ word) × (x ≡ z)) ⊎ (y ≡ z)
@@ -90,6 +94,11 @@ spelled-alone text line h = elim (this_word text (codes "NEXT") _ _ _ h) [
   | inr more ↦ (let test = cond_some (bytes_eq text (codes "BATCH")) Batch line more in subst (SpellsLine text) test.1 ((bytes_eq-Decides text (codes "BATCH")).0 test.0))
 ]
 
+spelled-node : (text word words : List ℕ) (command line : CommandLine) → text ≡ word ++ 32 ∷ words → of_node words command ≡ Some line → (command ≡ line) × (text ≡ word ++ 32 ∷ codes "a")
+spelled-node text word words command line is h =
+    let test = cond_some (bytes_eq words (codes "a")) command line h in
+    (test.1, is ∙ ap (λ w. word ++ 32 ∷ w) ((bytes_eq-Decides words (codes "a")).0 test.0))
+
 spelled-by_word : (text word words : List ℕ) (line : CommandLine) → text ≡ word ++ 32 ∷ words → by_word word words ≡ Some line → SpellsLine text line
 spelled-by_word text word words line is h = elim (this_word word (codes "ASK") _ _ _ h) [
   | inl ask ↦ (
@@ -101,11 +110,21 @@ spelled-by_word text word words line is h = elim (this_word word (codes "ASK") _
         let found = file-file_of words line file.1 in
         let spelled = is ∙ ap (λ w. w ++ 32 ∷ words) file.0 ∙ ap (λ w. codes "FILE" ++ 32 ∷ w) found.3 in
         subst (SpellsLine text) (sym found.2) (found.1, spelled))
-    | inr no_file ↦ (
-        let test = when_some (bytes_eq word (codes "EDIT")) (edit_of words) line no_file in
-        let found = text-edit_of words line test.1 in
-        let spelled = is ∙ ap (λ w. w ++ 32 ∷ words) ((bytes_eq-Decides word (codes "EDIT")).0 test.0) ∙ ap (λ w. codes "EDIT" ++ 32 ∷ w) found.words_are in
-        subst (SpellsLine text) (sym found.line_is) (found.text, found.text_is, record { editor_is = found.editor_is; serial_is = found.serial_is; line_is = spelled }))
+    | inr no_file ↦ (elim (this_word word (codes "EDIT") _ _ _ no_file) [
+      | inl edit ↦ (
+          let found = text-edit_of words line edit.1 in
+          let spelled = is ∙ ap (λ w. w ++ 32 ∷ words) edit.0 ∙ ap (λ w. codes "EDIT" ++ 32 ∷ w) found.words_are in
+          subst (SpellsLine text) (sym found.line_is) (found.text, found.text_is, record { editor_is = found.editor_is; serial_is = found.serial_is; line_is = spelled }))
+      | inr no_edit ↦ (elim (this_word word (codes "STOP") _ _ _ no_edit) [
+        | inl stop ↦ (
+            let found = spelled-node text word words Stop line is stop.1 in
+            subst (SpellsLine text) found.0 (found.1 ∙ ap (λ w. w ++ 32 ∷ codes "a") stop.0))
+        | inr no_stop ↦ (
+            let test = when_some (bytes_eq word (codes "START")) (of_node words Start) line no_stop in
+            let found = spelled-node text word words Start line is test.1 in
+            subst (SpellsLine text) found.0 (found.1 ∙ ap (λ w. w ++ 32 ∷ codes "a") ((bytes_eq-Decides word (codes "START")).0 test.0)))
+      ])
+    ])
   ])
 ]
   where

@@ -1,87 +1,122 @@
--- The row of each command, by the state after the booked history, how many entries it has, and the job; and so the reply to each command, and the machine after it.
-use Rattle.std.specs.Prelude.{ℕ, ◌+◌, List, [], ◌∷◌, ◌++◌, length, Option, Some, None}
-use Rattle.std.specs.List.{fold}
-use Rattle.std.specs.Option.{option_map}
+-- The row of each command: its refusals in their order, where a disk may fail and what that leaves, and its success.
+use Rattle.std.specs.Prelude.{ℕ, suc, List, length, Bool, true, false, Option, Some, None, Result, Ok, Err}
 use Rattle.std.specs.FinMap.{get}
-use Rattle.batch_frame.specs.FrameFault.{frame_fault}
-use Rattle.office_entry.specs.declared.entry.Entry.{Entry}
-use Rattle.office_state.specs.OfficeState.{State}
-use Rattle.office_state.specs.Verdict.{verdict, after as after_entry}
-use Rattle.retrieval.specs.AnswerForm.{form}
+use Rattle.std.specs.Option.{option_map}
+use Rattle.ali_base.specs.declared.names.NodeName.TheVariants.{A}
+use Rattle.batch_desk.specs.JobReplies.{read_of, done_of}
+use Rattle.batch_desk.specs.Jobs.{job_standing, next_of}
 use Rattle.batch_desk.specs.declared.job.Job.{Job}
 use Rattle.batch_desk.specs.declared.job.Job.TheVariants as jobs
-use Rattle.batch_desk.specs.Jobs.{job_standing, entries_left}
-use Rattle.batch_desk.specs.JobReplies.{read_of, done_of}
-use Rattle.command_machine.specs.declared.refusal.Refusal.{Refusal}
-use Rattle.command_machine.specs.declared.refusal.Refusal.TheVariants.{NoJob}
-use Rattle.command_machine.specs.Commands.{Command, Ask, File, Edit, Next, Batch}
-use Rattle.command_machine.specs.Rows.{Row, Unless, Always, Success, reply_in, event_in}
-use Rattle.command_machine.specs.Refusals.{ahead, framing, standing_refusal}
-use Rattle.command_machine.specs.Replies.{Reply, Refused, Answer, Read, Complete, Booked, Finished, reply_text}
-use Rattle.command_machine.specs.Machine.{Machine, state_of, Event, Answers, Reads, Books, after_event}
+use Rattle.batch_frame.specs.FrameFault.{frame_fault}
+use Rattle.command_machine.specs.Commands.{Command, Ask, File, Edit, Next, Batch, Stop, Start}
+use Rattle.command_machine.specs.Machine.{Machine, office_bounds, holder_of, count_of, state_of, with_world}
+use Rattle.command_machine.specs.Replies.{Reply, Told, Answer, Framing, Standing, No_job, Read, Complete, Finished}
+use Rattle.office_entry.specs.declared.entry.Entry.{Entry}
+use Rattle.office_state.specs.OfficeState.{office_limits, State}
+use Rattle.office_state.specs.declared.due_fault.DueFault.{DueFault}
+use Rattle.pair_world.specs.Changes.{journal_written, written, read_failed, write_failed}
+use Rattle.pair_world.specs.Refusals as refusals
+use Rattle.pair_world.specs.Refusals.{Refusal, disk_of}
+use Rattle.pair_world.specs.World.{World, holder_journal}
+use Rattle.retrieval.specs.AnswerForm.{form}
+use Rattle.sequence_once.specs.declared.standing.CycleFault.{CycleFault}
+use Rattle.sequence_once.specs.declared.standing.Standing.{Standing as AnyStanding}
+use Rattle.sequence_once.specs.declared.standing.Standing.TheVariants as standing
+use Rattle.world_rows.specs.Rows.{Row, Unless, MayFail, Always, Success, row_in}
+use Rattle.world_rows.specs.Told as told
+use Rattle.world_rows.specs.WorldRows as world_rows
 
--- a refusal as a reply
+-- a refusal of the world as a reply
 abbrev pub refused : Option Refusal → Option Reply
-refused refusal = option_map Refused refusal
+refused refusal = option_map (λ r. Told (told.Refused r)) refusal
 
--- `ASK`: a number's form in the state after all entries, and never one that is behind what was asked for
-abbrev pub ask_row : State → ℕ → List ℕ → ℕ → Row Reply Event
-ask_row s count tn since =
-    Unless (refused (ahead count since))
-    (Success (Answer count (form (get s.table tn) tn)) Answers)
+-- a job whose standing is a fault
+abbrev pub not_readable : Result AnyStanding CycleFault → Option Reply
+not_readable (Ok standing) = None
+not_readable (Err fault) = Some (Standing fault)
 
--- `FILE` and `EDIT`: what is read becomes the job, and what is refused leaves the job that was
-abbrev pub read_row : State → Option Refusal → Job → Row Reply Event
-read_row s frame job =
-    Unless (refused frame)
-    (Unless (refused (standing_refusal (job_standing s job)))
-    (Success (Read (read_of s job)) (Reads job)))
+-- a job of which no entry is next: its standing is a fault, or it is complete
+abbrev pub not_next : State → Job → Result AnyStanding CycleFault → Option Reply
+not_next s job (Err fault) = Some (Standing fault)
+not_next s job (Ok standing.Complete) = Some (Complete (done_of s job))
+not_next s job (Ok standing.New) = None
+not_next s job (Ok (standing.Resume line)) = None
 
--- the first of these entries is booked, with its verdict in the state before it; or there is none, and the job is complete
-abbrev pub book_row : State → ℕ → Job → List Entry → Row Reply Event
-book_row s count job [] = Always (Complete (done_of s job))
-book_row s count job (e ∷ rest) = Success (Booked (count + 1) (verdict s e).code) (Books (e ∷ []))
+-- a job that is complete has its reply
+abbrev pub finished : State → Job → Result AnyStanding CycleFault → Option Reply
+finished s job (Ok standing.Complete) = Some (Finished s job)
+finished s job (Ok standing.New) = None
+finished s job (Ok (standing.Resume line)) = None
+finished s job (Err fault) = None
 
--- `NEXT`: the first entry that is left of the job
-abbrev pub next_row : State → ℕ → Option Job → Row Reply Event
-next_row s count None = Always (Refused NoJob)
-next_row s count (Some job) =
-    Unless (refused (standing_refusal (job_standing s job)))
-    (book_row s count job (entries_left s job))
+module _ (m : Machine) where
+  -- the disk of the holder may fail while its table learns
+  abbrev pub learning : Row Reply Machine → Row Reply Machine
+  learning row = MayFail (disk_of (holder_of m)) (with_world m (read_failed m.world (holder_of m))) row
 
--- `BATCH`: all of them, and the reply in the state after them
-abbrev pub batch_row : State → Option Job → Row Reply Event
-batch_row s None = Always (Refused NoJob)
-batch_row s (Some job) =
-    let entries = entries_left s job in
-    Unless (refused (standing_refusal (job_standing s job)))
-    (Success (Finished (fold after_entry s entries) job) (Books entries))
+  -- the holder is on duty and up
+  abbrev pub held : Row Reply Machine → Row Reply Machine
+  held row =
+      Unless (refused (refusals.duty_is_down m.world)) (Unless (refused (refusals.node_is_down m.world (holder_of m))) row)
 
--- the row of a command
-abbrev pub command_row : State → ℕ → Option Job → Command → Row Reply Event
-command_row s count job (Ask position tn since) = ask_row s count tn since
-command_row s count job (File content) = read_row s (framing (frame_fault content)) (jobs.File content)
-command_row s count job (Edit editor serial edit) = read_row s None (jobs.Edit editor serial edit)
-command_row s count job Next = next_row s count job
-command_row s count job Batch = batch_row s job
+  -- `ASK`: a number's form in the state after all booked entries, and never one that is behind what was asked for
+  abbrev pub ask_row : List ℕ → ℕ → Row Reply Machine
+  ask_row tn since =
+      let w = m.world in let s = state_of m in
+      Unless (refused (refusals.duty_is_down w))
+      (Unless (refused (refusals.node_is_down w A))
+      (Unless (refused (refusals.not_in_duty w A))
+      (Unless (refused (refusals.ahead w since))
+      (MayFail (disk_of A) (with_world m (read_failed w A))
+      (Success (Answer (count_of m) (form (get s.table tn) tn)) m)))))
 
-abbrev pub row_of : Machine → Command → Row Reply Event
-row_of m command = command_row (state_of m) (length m.history) m.job command
+  -- `FILE` and `EDIT`: what is read becomes the job, and what is refused leaves the job that was
+  abbrev pub read_row : Option Reply → Job → Row Reply Machine
+  read_row fault job =
+      Unless fault
+      (held
+      (learning
+      (Unless (not_readable (job_standing (state_of m) job))
+      (Success (Read (read_of (state_of m) job)) (record m { job = Some job })))))
 
--- the reply to a command
-unfoldable pub reply : Machine → Command → Reply
-reply m command = reply_in (row_of m command)
+  -- the next entry of the job is written behind the booked ones
+  abbrev pub append_row : Result Entry DueFault → Row Reply Machine
+  append_row (Err fault) = Always (Told (told.Not_due fault))
+  append_row (Ok entry) =
+      MayFail (disk_of (holder_of m)) (with_world m (write_failed m.world (holder_of m) (journal_written m.world.base entry)))
+      (Success
+      (Told (told.Written (suc (length (holder_journal m.world.base))) m.world.base.duty.epoch))
+      (with_world m (record m.world { base = written m.world.base entry })))
 
--- the machine after a command
-unfoldable pub after : Machine → Command → Machine
-after m command = after_event m (event_in (row_of m command))
+  abbrev pub job_row : Option Job → Row Reply Machine
+  job_row None = Always No_job
+  job_row (Some job) =
+      learning
+      (Unless (not_next (state_of m) job (job_standing (state_of m) job))
+      (Unless (refused (refusals.full m.world office_bounds)) (append_row (next_of (state_of m) job))))
 
--- the text of the replies to commands, one after the other
-abbrev pub replies_text : Machine → List Command → List ℕ
-replies_text m [] = []
-replies_text m (command ∷ commands) = reply_text (reply m command) ++ replies_text (after m command) commands
+  abbrev pub write_row : Row Reply Machine
+  write_row = held (Unless (refused (refusals.in_flight m.world)) (job_row m.job))
 
--- the machine after commands
-abbrev pub after_all : Machine → List Command → Machine
-after_all m [] = m
-after_all m (command ∷ commands) = after_all (after m command) commands
+  -- what NEXT and BATCH find: the holder; and of BATCH its job, which may be complete
+  abbrev pub found_row : Bool → Option Job → Row Reply Machine → Row Reply Machine
+  found_row false job row = row
+  found_row true None row = row
+  found_row true (Some job) row = learning (Unless (finished (state_of m) job (job_standing (state_of m) job)) row)
+
+  abbrev pub next_row : Bool → Row Reply Machine
+  next_row batch = held (found_row batch m.job (Success (Told told.Ready) m))
+
+  -- an event of the world, which leaves the job
+  abbrev pub event_row : Row told.Told (World Entry) → Row Reply Machine
+  event_row row = row_in Told (with_world m) row
+
+  -- the first event of a command; lasted says of a disk in doubt that its failed write did last
+  abbrev pub command_row : Bool → Command → Row Reply Machine
+  command_row lasted (Ask position tn since) = ask_row tn since
+  command_row lasted (File content) = read_row (option_map Framing (frame_fault content)) (jobs.File content)
+  command_row lasted (Edit editor serial edit) = read_row None (jobs.Edit editor serial edit)
+  command_row lasted Next = next_row false
+  command_row lasted Batch = next_row true
+  command_row lasted Stop = event_row (world_rows.stop_row office_limits m.world A)
+  command_row lasted Start = event_row (world_rows.start_row office_limits m.world A lasted)

@@ -6,7 +6,7 @@ use Rattle.office_entry.specs.EditText.{IsEditText}
 use Rattle.command_machine.specs.Commands.{IsAsk}
 use Rattle.command_machine.specs.declared.command.TheConstants.{FILE_LIMIT}
 use Rattle.command_machine.specs.declared.command_line.CommandLine.{CommandLine}
-use Rattle.command_machine.specs.declared.command_line.CommandLine.TheVariants.{Ask, File, Edit, Next, Batch}
+use Rattle.command_machine.specs.declared.command_line.CommandLine.TheVariants.{Ask, File, Edit, Next, Batch, Stop, Start}
 
 -- `ASK a position tn since`; the one node's letter is a
 abbrev pub ask_text : ℕ → List ℕ → ℕ → List ℕ
@@ -19,6 +19,13 @@ file_text len = codes "FILE" ++ 32 ∷ decimal len
 -- `EDIT editor serial`, and the text of the edit
 abbrev pub edit_text : ℕ → ℕ → List ℕ → List ℕ
 edit_text editor serial text = codes "EDIT" ++ 32 ∷ (decimal editor ++ 32 ∷ (decimal serial ++ 32 ∷ text))
+
+-- `STOP a`, `START a`
+abbrev pub stop_text : List ℕ
+stop_text = codes "STOP" ++ 32 ∷ codes "a"
+
+abbrev pub start_text : List ℕ
+start_text = codes "START" ++ 32 ∷ codes "a"
 
 -- the text of an edit's command
 pub record IsEditLine (text : List ℕ) (editor serial : ℕ) (words : List ℕ) : Type 0 where
@@ -33,3 +40,5 @@ SpellsLine text (File len) = (len ≤ FILE_LIMIT) × (text ≡ file_text len)
 SpellsLine text (Edit editor serial edit) = (words : List ℕ) × IsEditText words edit × IsEditLine text editor serial words
 SpellsLine text Next = text ≡ codes "NEXT"
 SpellsLine text Batch = text ≡ codes "BATCH"
+SpellsLine text Stop = text ≡ stop_text
+SpellsLine text Start = text ≡ start_text

@@ -6,13 +6,15 @@ use Rattle.office_entry.specs.declared.edit.Edit.{Edit as GuideEdit}
 use Rattle.office_entry.specs.Edits.{IsEdit}
 use Rattle.command_machine.specs.declared.command.TheConstants.{FILE_LIMIT, POSITIONS}
 
--- a command: the request of a position, which asks for a number after at least so many entries; a carrier's file; an editor's edit of the street guide; the next entry of the job, which is the file or edit that was read last; and all that are left of it
+-- a command: the request of a position, which asks for a number after at least so many entries; a carrier's file; an editor's edit of the street guide; the next entry of the job, which is the file or edit that was read last; all that are left of it; and the node is stopped, or started again
 pub data Command : Type 0 where
   Ask : (position : ℕ) (tn : List ℕ) (since : ℕ) → Command
   File : (content : List ℕ) → Command
   Edit : (editor serial : ℕ) (edit : GuideEdit) → Command
   Next : Command
   Batch : Command
+  Stop : Command
+  Start : Command
 
 -- a position is 1 to the number of positions
 pub record IsAsk (position : ℕ) (tn : List ℕ) (since : ℕ) : Type 0 where
@@ -28,3 +30,5 @@ IsCommand (File content) = length content ≤ FILE_LIMIT
 IsCommand (Edit editor serial edit) = IsEditor editor × IsSerial serial × IsEdit edit
 IsCommand Next = Unit {0}
 IsCommand Batch = Unit {0}
+IsCommand Stop = Unit {0}
+IsCommand Start = Unit {0}

@@ -8,7 +8,7 @@ use Rattle.text_line.specs.WordReading.{number_of, split_once}
 use Rattle.office_entry.specs.EditReading.{edit_of_text}
 use Rattle.command_machine.specs.declared.command.TheConstants.{FILE_LIMIT, POSITIONS}
 use Rattle.command_machine.specs.declared.command_line.CommandLine.{CommandLine}
-use Rattle.command_machine.specs.declared.command_line.CommandLine.TheVariants.{Ask, File, Edit, Next, Batch}
+use Rattle.command_machine.specs.declared.command_line.CommandLine.TheVariants.{Ask, File, Edit, Next, Batch, Stop, Start}
 
 -- behind `ASK`: `a position tn since`
 unfoldable pub ask_of : List ℕ → Option CommandLine
@@ -37,6 +37,10 @@ edit_of words = do
   edit ← edit_of_text serial.1
   when (nat_le 1 e && nat_le e EDITORS && nat_le 1 s && nat_le s LAST_SERIAL) (Edit e s edit)
 
+-- behind `STOP` and `START`: the one node's letter, `a`
+abbrev pub of_node : List ℕ → CommandLine → Option CommandLine
+of_node words line = when (bytes_eq words (codes "a")) line
+
 -- a word alone
 abbrev pub word_alone : List ℕ → Option CommandLine
 word_alone word = if bytes_eq word (codes "NEXT") then Some Next else when (bytes_eq word (codes "BATCH")) Batch
@@ -48,7 +52,11 @@ by_word word words =
     then ask_of words
     else (if bytes_eq word (codes "FILE")
     then file_of words
-    else (if bytes_eq word (codes "EDIT") then edit_of words else None))
+    else (if bytes_eq word (codes "EDIT")
+    then edit_of words
+    else (if bytes_eq word (codes "STOP")
+    then of_node words Stop
+    else (if bytes_eq word (codes "START") then of_node words Start else None))))
 
 -- a line in two parts at its first space, or without one
 abbrev pub line_in : List ℕ → Option (List ℕ × List ℕ) → Option CommandLine

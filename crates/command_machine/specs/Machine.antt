@@ -1,43 +1,57 @@
--- The machine: the booked history and the job; and what its events do.
-use Rattle.std.specs.Prelude.{List, [], ◌++◌, Option, Some, None}
+-- The machine: the replicated world and the job. Its moment has besides how often each disk has failed.
+use Rattle.std.specs.Prelude.{ℕ, List, length, Option, Some, None}
+use Rattle.ali_base.specs.declared.names.NodeName.{NodeName}
+use Rattle.batch_desk.specs.Jobs.{IsJob}
+use Rattle.batch_desk.specs.declared.job.Job.{Job}
+use Rattle.node_journal.specs.declared.frame.TheConstants.{LAST_EPOCH, MOST_FRAMES}
 use Rattle.office_entry.specs.declared.entry.Entry.{Entry}
 use Rattle.office_state.specs.OfficeState.{State, office_limits}
-use Rattle.office_state.specs.History.{state}
-use Rattle.batch_desk.specs.declared.job.Job.{Job}
+use Rattle.pair_core.specs.LoneNode.{lone_world}
+use Rattle.pair_world.specs.Frames.{Frame}
+use Rattle.pair_world.specs.Step.{Bounds}
+use Rattle.pair_world.specs.World.{World}
+use Rattle.world_rows.specs.Counts.{Counts}
+use Rattle.world_rows.specs.Histories.{state_of as state_in, IsLawful as IsLawfulWorld}
 
--- the booked history, and the job: the file or the edit that was read last
+-- how many frames a journal may have, and the last epoch
+abbrev pub office_bounds : Bounds
+office_bounds = record { frames = MOST_FRAMES; last_epoch = LAST_EPOCH }
+
+-- the world, and the job: the file or the edit that was read last
 pub record Machine : Type 0 where
-  pub history : List Entry
+  pub world : World Entry
   pub job : Option Job
 
--- before the first command
-abbrev pub start : Machine
-start = record { history = []; job = None }
+-- the machine, and the disks' counts of faults
+pub record Moment : Type 0 where
+  pub machine : Machine
+  pub counts : Counts
 
--- the state after the booked history
+-- the machine at the start of a run, over the journal that the disk stands for
+abbrev pub first_machine : List (Frame Entry) → Machine
+first_machine frames = record { world = lone_world frames; job = None }
+
+-- the holder of the duty
+abbrev pub holder_of : Machine → NodeName
+holder_of m = m.world.base.duty.holder
+
+-- how many entries are booked, and the state after them
+abbrev pub count_of : Machine → ℕ
+count_of m = length m.world.base.booked
+
 abbrev pub state_of : Machine → State
-state_of m = state office_limits m.history
+state_of m = state_in office_limits m.world
 
--- Answers: a request is answered. Reads: this becomes the job. Books: these entries are booked
-pub data Event : Type 0 where
-  Answers : Event
-  Reads : (job : Job) → Event
-  Books : (entries : List Entry) → Event
+-- the machine in another world
+abbrev pub with_world : Machine → World Entry → Machine
+with_world m w = record m { world = w }
 
--- the entries that an event books
-abbrev pub entries_of : Option Event → List Entry
-entries_of None = []
-entries_of (Some Answers) = []
-entries_of (Some (Reads job)) = []
-entries_of (Some (Books entries)) = entries
+-- there is no job, or it is one
+abbrev pub HasJob : Option Job → Type 0
+HasJob None = Unit {0}
+HasJob (Some job) = IsJob job
 
--- the job after an event
-abbrev pub job_after : Option Job → Option Event → Option Job
-job_after job None = job
-job_after job (Some Answers) = job
-job_after job (Some (Reads read)) = Some read
-job_after job (Some (Books entries)) = job
-
--- the machine after an event, or after none
-abbrev pub after_event : Machine → Option Event → Machine
-after_event m event = record { history = m.history ++ entries_of event; job = job_after m.job event }
+-- The world is lawful, and the job is one.
+pub record IsLawful (m : Machine) : Type 0 where
+  pub world : IsLawfulWorld office_limits office_bounds m.world
+  pub job : HasJob m.job

@@ -1,29 +1,29 @@
 -- A command of the program as a command, and a reply of the program as a reply; and what a desk does.
-use Rattle.std.specs.Prelude.{◌≡◌, ◌⊎◌, ℕ, ◌+◌, ◌<◌, List, [], length, Option, Some, None, Result, Ok, Err}
-use Rattle.batch_frame.specs.FrameFault.{frame_fault}
-use Rattle.sequence_once.specs.declared.standing.Standing.{Standing}
-use Rattle.sequence_once.specs.declared.standing.Standing.TheVariants as standing
-use Rattle.sequence_once.specs.declared.standing.CycleFault.{CycleFault}
-use Rattle.office_entry.specs.declared.entry.Entry.{Entry}
-use Rattle.office_state.specs.declared.office.TheConstants.{MOST_ENTRIES}
-use Rattle.office_state.specs.OfficeState.{State, office_limits}
-use Rattle.office_state.specs.History.{Represents, KeepsHistory}
+use Rattle.std.specs.Prelude.{◌≡◌, ◌⊎◌, ℕ, List, [], ◌∷◌, Bool, Option, Some, None, Result, Ok, Err}
+use Rattle.ali_base.specs.declared.names.NodeName.TheVariants.{A}
+use Rattle.ali_base.specs.declared.no_memory.NoMemory.{NoMemory}
+use Rattle.batch_desk.specs.Jobs.{job_standing}
 use Rattle.batch_desk.specs.declared.job.Job.{Job}
-use Rattle.batch_desk.specs.declared.job.Job.TheVariants as jobs
-use Rattle.batch_desk.specs.Jobs.{job_standing, entries_left}
 use Rattle.command_machine.specs.Commands as commands
-use Rattle.command_machine.specs.Rows.{Row, reply_in, event_in}
-use Rattle.command_machine.specs.Machine.{Machine, Event, entries_of, job_after}
-use Rattle.command_machine.specs.CommandRows.{command_row}
+use Rattle.command_machine.specs.Machine.{Machine, Moment, IsLawful, office_bounds}
 use Rattle.command_machine.specs.Replies as replies
+use Rattle.command_machine.specs.Steps.{Steps, StepsInPart}
 use Rattle.command_machine.specs.declared.command.Command.{Command}
-use Rattle.command_machine.specs.declared.command.Command.TheVariants.{Ask, File, Edit, Next, Batch}
+use Rattle.command_machine.specs.declared.command.Command.TheVariants.{Ask, File, Edit, Next, Batch, Stop, Start}
 use Rattle.command_machine.specs.declared.desk.Desk.{Desk}
-use Rattle.command_machine.specs.Refusals.{framing, standing_refusal}
 use Rattle.command_machine.specs.declared.refusal.Refusal.{Refusal}
-use Rattle.command_machine.specs.declared.refusal.Refusal.TheVariants.{NoJob}
+use Rattle.command_machine.specs.declared.refusal.Refusal.TheVariants as refusal
 use Rattle.command_machine.specs.declared.reply.Reply.{Reply}
-use Rattle.command_machine.specs.declared.reply.Reply.TheVariants.{Refused, Answer, Read, Complete, Booked, Finished}
+use Rattle.command_machine.specs.declared.reply.Reply.TheVariants as reply
+use Rattle.crash_disk.specs.DiskState.{DiskState}
+use Rattle.office_state.specs.OfficeState.{State, office_limits}
+use Rattle.pair_core.specs.LoneAnswers.{fault_told}
+use Rattle.pair_core.specs.LoneNode as lone
+use Rattle.pair_core.specs.declared.faults.PairFault.{PairFault}
+use Rattle.pair_world.specs.Refusals.{Ahead}
+use Rattle.sequence_once.specs.declared.standing.Standing.TheVariants as standing
+use Rattle.world_rows.specs.Counts.{Counts, NeverFall}
+use Rattle.world_rows.specs.Told as told
 
 abbrev pub command_of : Command → commands.Command
 command_of (Ask ask) = commands.Ask ask.position ask.tn ask.since
@@ -31,38 +31,39 @@ command_of (File content) = commands.File content.now
 command_of (Edit editor serial edit) = commands.Edit editor serial edit
 command_of Next = commands.Next
 command_of Batch = commands.Batch
+command_of Stop = commands.Stop
+command_of Start = commands.Start
 
--- the desk has the office after the machine's history, and the machine's job
-pub record ShowsMachine (desk : Desk) (m : Machine) : Type 0 where
-  pub office : Represents office_limits desk.office m.history
-  pub job : desk.job ≡ m.job
+-- a refusal of the pair as a reply; for want of memory there is none
+abbrev pub fault_reply : PairFault → replies.Reply
+fault_reply fault = told_or_ready (fault_told fault)
+  where
+    told_or_ready : Option told.Told → replies.Reply
+    told_or_ready (Some t) = replies.Told t
+    told_or_ready None = replies.Told told.Ready
 
--- the entries that are left of the job
-abbrev pub left_of : State → Option Job → List Entry
-left_of s None = []
-left_of s (Some job) = entries_left s job
-
--- all that is left of the job may be booked
-abbrev pub HasRoom : Desk → Type 0
-HasRoom desk = desk.office.entries + length (left_of desk.office.state desk.job) < MOST_ENTRIES
-
--- the row of a command at a desk
-abbrev pub row_at : Desk → commands.Command → Row replies.Reply Event
-row_at desk command = command_row desk.office.state desk.office.entries desk.job command
+abbrev pub refusal_reply : Refusal → replies.Reply
+refusal_reply (refusal.Pair fault) = fault_reply fault
+refusal_reply (refusal.Ahead since count) = replies.Told (told.Refused (Ahead since count))
+refusal_reply (refusal.Frame fault) = replies.Framing fault
+refusal_reply (refusal.Standing fault) = replies.Standing fault
+refusal_reply refusal.NoJob = replies.No_job
 
 -- the reply to a job that is complete
 abbrev pub finished : State → Option Job → replies.Reply
-finished s None = replies.Refused NoJob
+finished s None = replies.No_job
 finished s (Some job) = replies.Finished s job
 
 -- the reply of a desk with this state and this job
 abbrev pub reply_of : State → Option Job → Reply → replies.Reply
-reply_of s job (Refused refusal) = replies.Refused refusal
-reply_of s job (Answer count form) = replies.Answer count form
-reply_of s job (Read read) = replies.Read read
-reply_of s job (Complete done) = replies.Complete done
-reply_of s job (Booked number code) = replies.Booked number code
-reply_of s job Finished = finished s job
+reply_of s job (reply.Refused refusal) = refusal_reply refusal
+reply_of s job (reply.Answer count form) = replies.Answer count form
+reply_of s job (reply.Read read) = replies.Read read
+reply_of s job (reply.Complete done) = replies.Complete done
+reply_of s job (reply.Booked number code detail) = replies.Told (told.Booked number (record { code = code; detail = detail }))
+reply_of s job reply.Finished = finished s job
+reply_of s job reply.Stopped = replies.Told (told.Stopped A)
+reply_of s job (reply.Started len known) = replies.Told (told.Started A len known)
 
 -- there is a job, and it is complete
 abbrev pub IsFinished : State → Option Job → Type 0
@@ -71,29 +72,40 @@ IsFinished s (Some job) = job_standing s job ≡ Ok standing.Complete
 
 -- a desk that says that its job is finished has one that is
 abbrev pub CanTell : State → Option Job → Reply → Type 0
-CanTell s job (Refused refusal) = Unit {0}
-CanTell s job (Answer count form) = Unit {0}
-CanTell s job (Read read) = Unit {0}
-CanTell s job (Complete done) = Unit {0}
-CanTell s job (Booked number code) = Unit {0}
-CanTell s job Finished = IsFinished s job
+CanTell s job reply.Finished = IsFinished s job
+CanTell s job told = Unit {0}
 
--- the reply is that of the row, and its event was done
-pub record CarriesOut (old new : Desk) (row : Row replies.Reply Event) (reply : Reply) : Type 0 where
-  pub told : reply_of new.office.state new.job reply ≡ reply_in row
-  pub history : KeepsHistory old.office new.office (entries_of (event_in row))
-  pub job : new.job ≡ job_after old.job (event_in row)
-  pub can_tell : CanTell new.office.state new.job reply
+-- the state of the desk's table
+abbrev pub table_of : {D : Type 0} → Desk D → State
+table_of desk = let table = lone.table_of desk.office in table.state
 
--- the refusal of a file, by its frame or by its standing
-abbrev pub IsFileRefusal : State → List ℕ → Refusal → Type 0
-IsFileRefusal s content refusal =
-    (framing (frame_fault content) ≡ Some refusal)
-    ⊎ ((framing (frame_fault content) ≡ None) × (standing_refusal (job_standing s (jobs.File content)) ≡ Some refusal))
+-- whether the node is up
+abbrev pub is_up : {D : Type 0} → Desk D → Bool
+is_up desk = lone.is_up desk.office
 
--- a job that was readable still is, and one that was not has the same fault
-abbrev pub StaysReadable : Result Standing CycleFault → Result Standing CycleFault → Type 0
-StaysReadable (Ok old) (Ok new) = Unit {0}
-StaysReadable (Err old) (Err new) = new ≡ old
-StaysReadable (Ok old) (Err new) = ⊥
-StaysReadable (Err old) (Ok new) = ⊥
+-- how often each disk has failed
+abbrev pub counts_of : {D : Type 0} → (D → DiskState) → Desk D → Counts
+counts_of state desk = lone.counts_of state desk.office
+
+-- The desk is at this moment of a machine.
+pub record ShowsMachine {D : Type 0} (state : D → DiskState) (desk : Desk D) (m : Moment) : Type 0 where
+  pub world : lone.Shows state office_limits desk.office m.machine.world
+  pub job : desk.job ≡ m.machine.job
+  pub counts : m.counts ≡ counts_of state desk
+  pub bounds : lone.bounds_of desk.office ≡ office_bounds
+
+-- What becomes of a command: it is done with this reply, or left on its way, with nothing told.
+abbrev pub CarriedOut : Moment → commands.Command → Result replies.Reply NoMemory → Moment → Type 0
+CarriedOut m command (Ok told) now = Steps m command (told ∷ []) now
+CarriedOut m command (Err e) now = StepsInPart m command [] now
+
+-- the reply of this desk
+abbrev pub told_by : {D : Type 0} → Desk D → Result Reply NoMemory → Result replies.Reply NoMemory
+told_by desk (Ok told) = Ok (reply_of (table_of desk) desk.job told)
+told_by desk (Err e) = Err e
+
+-- From each lawful moment at which the desk was, the command leads to one at which it is now, and which is lawful too.
+abbrev pub Carries : {D : Type 0} → (D → DiskState) → Desk D → Desk D → commands.Command → Result Reply NoMemory → Type 0
+Carries state old new command result =
+    (m : Moment) → ShowsMachine state old m → IsLawful m.machine
+    → (now : Moment) × ShowsMachine state new now × IsLawful now.machine × CarriedOut m command (told_by new result) now

@@ -35,4 +35,8 @@ pub enum Command<'a> {
     Next,
     /// All entries that are left of the job are booked.
     Batch,
+    /// The node is stopped.
+    Stop,
+    /// The node, which is down, is started again.
+    Start,
 }

@@ -1,6 +1,6 @@
 //! The line of a command.
 ghost use Rattle.std.specs.Prelude.{◌≡◌, ◌<◌, length, IfSome};
-ghost use Rattle.command_machine.specs.LineReading.{ask_of, file_of, edit_of, word_alone, line_of};
+ghost use Rattle.command_machine.specs.LineReading.{ask_of, file_of, edit_of, of_node, word_alone, line_of};
 
 use crate::command::{Ask, FILE_LIMIT, POSITIONS};
 use ali_base::{EDITORS, Editor, Serial, Tn};
@@ -24,6 +24,10 @@ pub enum CommandLine {
     Next,
     /// `BATCH`
     Batch,
+    /// `STOP a`
+    Stop,
+    /// `START a`
+    Start,
 }
 
 impl CommandLine {
@@ -43,6 +47,10 @@ impl CommandLine {
             file_of(words)
         } else if word == b"EDIT".as_slice() {
             edit_of(words)
+        } else if word == b"STOP".as_slice() {
+            of_node(words, CommandLine::Stop)
+        } else if word == b"START".as_slice() {
+            of_node(words, CommandLine::Start)
         } else {
             None
         }
@@ -114,4 +122,15 @@ fn edit_of(words: &[u8]) -> Option<CommandLine>
         serial: Serial::new(serial)?,
         edit,
     })
+}
+
+// Behind `STOP` and `START`: the one node's letter, `a`
+fn of_node(words: &[u8], command: CommandLine) -> Option<CommandLine>
+    ensures { result ≡ of_node words.now command }
+{
+    if words == b"a".as_slice() {
+        Some(command)
+    } else {
+        None
+    }
 }

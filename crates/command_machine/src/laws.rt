@@ -1,21 +1,25 @@
 //! Laws of the machine, for whoever reads its definitions.
-ghost use Rattle.std.specs.Prelude.{◌≡◌, ℕ, ◌↔◌, List, ◌++◌, All, AllPairs, Option, Some, Ok};
+ghost use Rattle.std.specs.Prelude.{◌≡◌, ◌≤◌, ℕ, ◌↔◌, ◌+◌, List, [], ◌∷◌, ◌++◌, length, AllPairs, All, Option, Some, Ok};
 ghost use Rattle.sequence_once.specs.declared.standing.Standing.{Standing};
-ghost use Rattle.sequence_once.specs.declared.standing.Standing.TheVariants.{Complete};
 ghost use Rattle.msag_edits.specs.GuideSoundness.{AreSound};
+ghost use Rattle.node_journal.specs.declared.frame.TheConstants.{MOST_FRAMES};
 ghost use Rattle.office_entry.specs.declared.entry.Entry.{Entry};
 ghost use Rattle.office_state.specs.History.{IsLegal, Repeats};
-ghost use Rattle.office_state.specs.OfficeState.{office_limits};
+ghost use Rattle.office_state.specs.OfficeState.{State, office_limits};
+ghost use Rattle.pair_world.specs.Frames.{Frame, Begins, entries};
+ghost use Rattle.world_rows.specs.Counts.{NoneRose};
 ghost use Rattle.batch_desk.specs.declared.job.Job.{Job};
-ghost use Rattle.batch_desk.specs.Jobs.{job_standing, IsStillKept};
+ghost use Rattle.batch_desk.specs.Jobs.{job_standing, entries_left};
 ghost use Rattle.command_machine.specs.Commands.{Command, Batch, IsCommand};
 ghost use Rattle.command_machine.specs.declared.command_line.CommandLine.{CommandLine};
 ghost use Rattle.command_machine.specs.CommandText.{SpellsLine};
 ghost use Rattle.command_machine.specs.LineReading.{line_of};
-ghost use Rattle.command_machine.specs.Rows.{Row, Gives, reply_in, event_in};
-ghost use Rattle.command_machine.specs.Replies.{Reply, reply_text};
-ghost use Rattle.command_machine.specs.Machine.{Machine, Event, start, state_of};
-ghost use Rattle.command_machine.specs.CommandRows.{reply, after, after_all};
+ghost use Rattle.command_machine.specs.Machine.{Machine, Moment, IsLawful, first_machine, state_of};
+ghost use Rattle.command_machine.specs.Replies.{Reply, Finished};
+ghost use Rattle.command_machine.specs.ReplyText.{reply_text};
+ghost use Rattle.command_machine.specs.Steps.{Steps, StepsInPart, Replies};
+ghost use Rattle.command_machine.specs.FirstEpoch.{AreFirst};
+ghost use Rattle.command_machine.specs.Laws.{IsSure, IsUsable, CanBatch, IsReadAgain};
 
 use crate::command::{FILE_LIMIT, POSITIONS};
 
@@ -25,50 +29,84 @@ pub fn command_lines_are_read_as_spelled()
         → (line_of text ≡ Some line) ↔ SpellsLine text line }
 {}
 
-/// A row gives one reply and one event, or none: those that its reading from the front finds.
-pub fn rows_are_read_one_way()
-    ensures { (row : Row Reply Event) (reply : Reply) (event : Option Event)
-        → Gives row reply event ↔ ((reply ≡ reply_in row) × (event ≡ event_in row)) }
+/// The machine that begins a run over a journal is lawful, where the journal's entries are a legal
+/// history, it has no more frames than a journal may have, and each is of the first epoch.
+pub fn first_machines_are_lawful()
+    ensures { (frames : List (Frame Entry))
+        → IsLegal office_limits (entries frames) → length frames ≤ MOST_FRAMES → AreFirst frames
+        → IsLawful (first_machine frames) }
 {}
 
-/// The booked history is legal after any commands: each entry could be booked in the state of those
+/// A command, done or left on its way, leads from a lawful machine to a lawful one, and the booked
+/// history only grows: what was booked stays, in its place.
+pub fn steps_keep_machines_lawful()
+    ensures step { (m now : Moment) (command : Command) (told : List Reply)
+        → IsCommand command → IsLawful m.machine → Steps m command told now
+        → IsLawful now.machine
+        × Begins now.machine.world.base.booked m.machine.world.base.booked }
+    ensures part { (m now : Moment) (command : Command) (told : List Reply)
+        → IsCommand command → IsLawful m.machine → StepsInPart m command told now
+        → IsLawful now.machine
+        × Begins now.machine.world.base.booked m.machine.world.base.booked }
+    ensures all { (m now : Moment) (commands : List Command) (told : List Reply)
+        → All IsCommand commands → IsLawful m.machine → Replies m commands told now
+        → IsLawful now.machine
+        × Begins now.machine.world.base.booked m.machine.world.base.booked }
+{}
+
+/// The booked history of a lawful machine is legal: each entry could be booked in the state of those
 /// before it. So no cycle is opened twice, no line is booked twice, and no serial of an editor is
 /// used twice; and guide and table are sound together.
 pub fn histories_are_legal()
-    ensures legal { (commands : List Command) → All IsCommand commands
-        → IsLegal office_limits (after_all start commands).history }
-    ensures once { (commands : List Command) → All IsCommand commands
-        → AllPairs (λ e f. Repeats e f → ⊥) (after_all start commands).history }
-    ensures sound { (commands : List Command) → All IsCommand commands
-        → let s = state_of (after_all start commands) in AreSound s.guide s.table }
+    ensures legal { (m : Machine) → IsLawful m
+        → IsLegal office_limits (entries m.world.base.booked) }
+    ensures once { (m : Machine) → IsLawful m
+        → AllPairs (λ e f. Repeats e f → ⊥) (entries m.world.base.booked) }
+    ensures sound { (m : Machine) → IsLawful m
+        → let s = state_of m in AreSound s.guide s.table }
 {}
 
-/// The booked history only grows: what was booked stays, in its place.
-pub fn history_only_grows()
-    ensures { (m : Machine) (commands : List Command)
-        → (booked : List Entry) × ((after_all m commands).history ≡ m.history ++ booked) }
+/// Each command that is done has one reply.
+pub fn commands_have_one_reply()
+    ensures { (m now : Moment) (command : Command) (told : List Reply)
+        → Steps m command told now → length told ≡ 1 }
 {}
 
-/// `BATCH` completes the job that was read. Whatever commands come then, where the same job is read
-/// again while the cycle of its file is kept, or while its edit is its editor's last, `BATCH` gets
-/// the same reply, byte for byte, and books nothing.
-pub fn repeated_jobs_get_the_same_reply()
-    ensures { (commands more : List Command) (job : Job) (standing : Standing)
-        → All IsCommand commands → All IsCommand more
-        → let m = after_all start commands in let n = after_all (after m Batch) more in
-        m.job ≡ Some job → job_standing (state_of m) job ≡ Ok standing
-        → n.job ≡ Some job → IsStillKept (state_of n) job
-        → (reply_text (reply n Batch) ≡ reply_text (reply m Batch))
-        × ((after n Batch).history ≡ n.history) }
+/// Where no disk is in doubt and none failed, a command has one outcome: its reply and the machine
+/// after it.
+pub fn undoubted_machines_answer_one_way()
+    ensures { (m now other : Moment) (command : Command) (told others : List Reply)
+        → IsSure m.machine → NoneRose m.counts now.counts → NoneRose m.counts other.counts
+        → Steps m command told now → Steps m command others other
+        → (told ≡ others) × (now.machine ≡ other.machine) }
 {}
 
-/// All entries of a job that is read can be booked: after `BATCH` it is complete.
+/// Where the node is up, nothing is pending, no disk fails and the journal has room, `BATCH` books all
+/// entries that are left of the job, and its reply is that of the complete job.
 pub fn batches_complete_their_jobs()
-    ensures { (commands : List Command) (job : Job) (standing : Standing)
-        → All IsCommand commands
-        → let m = after_all start commands in
-        m.job ≡ Some job → job_standing (state_of m) job ≡ Ok standing
-        → job_standing (state_of (after m Batch)) job ≡ Ok Complete }
+    ensures { (m now : Moment) (job : Job) (standing : Standing) (told : List Reply)
+        → IsLawful m.machine → CanBatch m.machine job
+        → job_standing (state_of m.machine) job ≡ Ok standing
+        → NoneRose m.counts now.counts → Steps m Batch told now
+        → (told ≡ Finished (state_of now.machine) job ∷ [])
+        × (entries now.machine.world.base.booked
+        ≡ entries m.machine.world.base.booked ++ entries_left (state_of m.machine) job) }
+{}
+
+/// `BATCH` of a job that is complete, read again while the cycle of its file is kept or while its edit
+/// is its editor's last, books nothing, whatever commands came between. Where the node is up and no
+/// disk fails it gets the reply of the complete job, and that is the same as before, byte for byte.
+pub fn repeated_jobs_get_the_same_reply()
+    ensures nothing { (m now again after : Moment) (job : Job) (s : State) (told : List Reply)
+        → IsReadAgain m now again job s → Steps again Batch told after
+        → after.machine.world.base.booked ≡ again.machine.world.base.booked }
+    ensures answered { (m now again after : Moment) (job : Job) (s : State) (told : List Reply)
+        → IsReadAgain m now again job s → IsUsable again.machine
+        → NoneRose again.counts after.counts → Steps again Batch told after
+        → told ≡ Finished (state_of again.machine) job ∷ [] }
+    ensures same { (m now again after : Moment) (job : Job) (s t : State)
+        → IsReadAgain m now again job s → Steps again Batch (Finished t job ∷ []) after
+        → reply_text (Finished t job) ≡ reply_text (Finished s job) }
 {}
 
 /// A carrier's file has at most 16,777,216 bytes.

@@ -1,5 +1,11 @@
-use Rattle.command_machine.proofs.Machines.{commands_of, replies_again}
+use Rattle.command_machine.proofs.Repeats.{books_nothing, is_answered, same_text}
 use Rattle.command_machine.proofs.laws.repeated_jobs_get_the_same_reply.Goals as goal
 
-pub returns : goal.returns
-returns c = λ commands more job standing lawful lawful_then. replies_again commands more job standing (commands_of commands lawful) (commands_of more lawful_then)
+pub returns-clause-nothing : goal.returns-clause-nothing
+returns-clause-nothing c m now again after job s told is steps = books_nothing m now again job s is after told steps
+
+pub returns-clause-answered : goal.returns-clause-answered
+returns-clause-answered c m now again after job s told is usable none steps = is_answered m now again job s is after told steps usable none
+
+pub returns-clause-same : goal.returns-clause-same
+returns-clause-same c m now again after job s t is steps = same_text m now again job s is after t steps

@@ -1,7 +1,7 @@
 use Rattle.std.proofs.Common.{List, ℕ, refl, subst, ◌∙◌, Ok}
 use Rattle.ali_base.specs.WholePuts.{Puts}
 use Rattle.ali_base.proofs.Puts.{puts_then}
-use Rattle.command_machine.specs.Replies.{reply_text}
+use Rattle.command_machine.specs.ReplyText.{reply_text}
 use Rattle.command_machine.proofs.desk.Desk.put.Goals as goal
 
 pub returns : goal.returns
