@@ -2,8 +2,8 @@
 use Rattle.std.proofs.Common.{◌≡◌, ℕ, List, length, refl, ap, sym, ◌∙◌, subst, arith, Option, Some, option_and_then, codes}
 use Rattle.std.proofs.lemmas.Option.{some_pair_parts}
 use Rattle.ali_base.proofs.Steps.{bind_ok}
-use Rattle.command_machine.specs.Commands.{Command, Ask, File, Edit, Next, Batch, IsCommand}
-use Rattle.command_machine.specs.CommandText.{ask_text, file_text, edit_text, IsEditLine, SpellsLine}
+use Rattle.command_machine.specs.Commands.{Command, Ask, File, Edit, Next, Batch, Stop, Start, IsCommand}
+use Rattle.command_machine.specs.CommandText.{ask_text, file_text, edit_text, stop_text, start_text, IsEditLine, SpellsLine}
 use Rattle.command_machine.specs.LineReading.{line_of}
 use Rattle.command_machine.specs.declared.command_line.CommandLine.{CommandLine}
 use Rattle.command_machine.specs.declared.command_line.CommandLine.TheVariants as line
@@ -30,6 +30,8 @@ command_at-spelled bytes (Edit editor serial edit) rest h is =
     command_at-line bytes (edit_text editor serial is.0) rest (line.Edit editor serial edit) (is.0, is.1, spelled) is.2
 command_at-spelled bytes Next rest h is = command_at-line bytes (codes "NEXT") rest line.Next refl is
 command_at-spelled bytes Batch rest h is = command_at-line bytes (codes "BATCH") rest line.Batch refl is
+command_at-spelled bytes Stop rest h is = command_at-line bytes stop_text rest line.Stop refl is
+command_at-spelled bytes Start rest h is = command_at-line bytes start_text rest line.Start refl is
 
 same_begins : (bytes : List ℕ) (c d : Command) (left rest : List ℕ) → ◌≡◌ {A = Option (Command × List ℕ)} (Some (c, left)) (Some (d, rest)) → BeginsWith bytes c left → BeginsWith bytes d rest
 same_begins bytes c d left rest same h =
@@ -53,6 +55,8 @@ begins-line bytes text left (line.Edit editor serial edit) c rest first is h =
     })
 begins-line bytes text left line.Next c rest first is h = same_begins bytes Next c left rest h (record { lawful = tt; spelled = subst (λ z. BeginsLine bytes z left) is first })
 begins-line bytes text left line.Batch c rest first is h = same_begins bytes Batch c left rest h (record { lawful = tt; spelled = subst (λ z. BeginsLine bytes z left) is first })
+begins-line bytes text left line.Stop c rest first is h = same_begins bytes Stop c left rest h (record { lawful = tt; spelled = subst (λ z. BeginsLine bytes z left) is first })
+begins-line bytes text left line.Start c rest first is h = same_begins bytes Start c left rest h (record { lawful = tt; spelled = subst (λ z. BeginsLine bytes z left) is first })
 
 -- what is spelled so is read so
 pub command_at-begins : (bytes : List ℕ) (command : Command) (rest : List ℕ) → BeginsWith bytes command rest → command_at bytes ≡ Some (command, rest)

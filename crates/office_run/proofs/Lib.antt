@@ -1,7 +1,10 @@
+pub mod Backed
 pub mod CommandTexts
 pub mod Completeness
+pub mod Ends
 pub mod FileTexts
 pub mod LineTexts
 pub mod Scripts
 pub mod Serving
+pub mod Switched
 pub mod Taking

@@ -1,30 +1,22 @@
 -- A script has one reading.
-use Rattle.std.proofs.Common.{◌≡◌, ℕ, ◌+◌, ◌≤◌, List, [], ◌∷◌, ◌++◌, length, None, codes, arith, refl, ap, sym, ◌∙◌, subst}
+use Rattle.std.proofs.Common.{◌≡◌, ℕ, List, [], ◌∷◌, ◌++◌, length, None, codes, arith, refl, ap, sym, ◌∙◌, subst}
 use Rattle.std.proofs.lemmas.Option.{some_pair_parts}
 use Rattle.office_run.specs.ScriptGrammar.{BeginsWith, Reads, IsScript, StopsAfter}
-use Rattle.command_machine.specs.CommandText.{ask_text, file_text, edit_text}
-use Rattle.command_machine.specs.Commands.{Command, Ask, File, Edit, Next, Batch}
+use Rattle.command_machine.specs.CommandText.{ask_text, file_text, edit_text, stop_text, start_text}
+use Rattle.command_machine.specs.Commands.{Command, Ask, File, Edit, Next, Batch, Stop, Start}
 use Rattle.office_run.specs.ScriptReading.{command_at}
 use Rattle.office_run.proofs.CommandTexts.{command_at-begins}
-use Rattle.command_machine.proofs.Machines.{size}
 use Rattle.office_run.proofs.LineTexts.{line_size}
-
--- the bytes of a command are counted
-pub begins-size : (bytes : List ℕ) (command : Command) (rest : List ℕ) → BeginsWith bytes command rest → size command + length rest ≤ length bytes
-begins-size bytes (Ask position tn since) rest h = omega (arith, line_size bytes (ask_text position tn since) rest h.spelled)
-begins-size bytes (File content) rest h =
-    omega (arith, line_size bytes (file_text (length content)) h.spelled.0 h.spelled.1, line_size h.spelled.0 content rest h.spelled.2)
-begins-size bytes (Edit editor serial edit) rest h = omega (arith, line_size bytes (edit_text editor serial h.spelled.0) rest h.spelled.2)
-begins-size bytes Next rest h = omega (arith, line_size bytes (codes "NEXT") rest h.spelled)
-begins-size bytes Batch rest h = omega (arith, line_size bytes (codes "BATCH") rest h.spelled)
 
 -- nothing begins with a command where there is nothing
 no_command : (command : Command) (rest : List ℕ) → BeginsWith [] command rest → ⊥
-no_command (Ask position tn since) rest h = omega (arith, begins-size [] (Ask position tn since) rest h)
-no_command (File content) rest h = omega (arith, begins-size [] (File content) rest h)
-no_command (Edit editor serial edit) rest h = omega (arith, begins-size [] (Edit editor serial edit) rest h)
-no_command Next rest h = omega (arith, begins-size [] Next rest h)
-no_command Batch rest h = omega (arith, begins-size [] Batch rest h)
+no_command (Ask position tn since) rest h = omega (arith, line_size [] (ask_text position tn since) rest h.spelled)
+no_command (File content) rest h = omega (arith, line_size [] (file_text (length content)) h.spelled.0 h.spelled.1)
+no_command (Edit editor serial edit) rest h = omega (arith, line_size [] (edit_text editor serial h.spelled.0) rest h.spelled.2)
+no_command Next rest h = omega (arith, line_size [] (codes "NEXT") rest h.spelled)
+no_command Batch rest h = omega (arith, line_size [] (codes "BATCH") rest h.spelled)
+no_command Stop rest h = omega (arith, line_size [] stop_text rest h.spelled)
+no_command Start rest h = omega (arith, line_size [] start_text rest h.spelled)
 
 -- two first commands are one, and so is what is left after them
 one_first : (bytes : List ℕ) (c d : Command) (x y : List ℕ) → BeginsWith bytes c x → BeginsWith bytes d y → (c ≡ d) × (x ≡ y)

@@ -1,94 +1,190 @@
--- A run of a script, command by command.
-use Rattle.std.proofs.Common.{◌≡◌, ◌≢◌, ℕ, ◌+◌, ◌≤◌, List, [], ◌∷◌, ◌++◌, length, take, refl, ap, sym, subst, arith, Option, Some, None, length-append}
+-- A run of a script at a desk, command by command.
+use Rattle.std.proofs.Common.{◌≡◌, ◌≢◌, ℕ, ◌+◌, List, [], ◌∷◌, ◌++◌, length, take, refl, sym, ◌∙◌, subst, arith, Option, Some, None, Ok, Err, length-append}
 use Rattle.std.specs.Io.KnownBytes.{Appends}
 use Rattle.std.proofs.KnownBytes.{Appends-trans, Appends-nil}
 use Rattle.ali_base.specs.WholePuts.{AppendsPart}
-use Rattle.office_run.specs.ScriptGrammar.{Reads}
+use Rattle.ali_base.specs.declared.no_memory.NoMemory.{NoMemory}
 use Rattle.command_machine.specs.Commands.{Command}
-use Rattle.office_run.specs.ScriptReading.{command_at}
-use Rattle.command_machine.specs.Replies.{Reply as AnyReply, reply_text}
-use Rattle.command_machine.specs.Machine.{start}
-use Rattle.command_machine.specs.CommandRows.{reply, replies_text, after_all}
-use Rattle.command_machine.specs.MadeReply.{ShowsMachine, left_of, row_at, reply_of, CarriesOut}
+use Rattle.command_machine.specs.Machine.{Moment, IsLawful, office_bounds}
+use Rattle.command_machine.specs.MadeReply.{ShowsMachine, Carries, reply_of, table_of, counts_of, is_up}
+use Rattle.command_machine.specs.OpenedDesk.{Keeps, Switches}
+use Rattle.command_machine.specs.Replies.{Reply}
+use Rattle.command_machine.specs.ReplyText.{reply_text, text_of}
+use Rattle.command_machine.specs.Steps.{Replies}
 use Rattle.command_machine.specs.declared.desk.Desk.{Desk}
-use Rattle.command_machine.specs.declared.reply.Reply.{Reply}
-use Rattle.office_run.specs.Exit.{RepliedToAll, StoppedAt, RepliedInPart, RepliedToSome}
+use Rattle.command_machine.specs.declared.reply.Reply.{Reply as MadeReply}
+use Rattle.crash_disk.specs.DiskState.{DiskState}
+use Rattle.office_run.specs.Disks.{IsLast}
+use Rattle.office_run.specs.Exit.{IsIdle}
+use Rattle.office_run.specs.Replied.{AreSwitched, AreSwitchedSince, AreMachines, RepliedTo, RepliedToAll, StoppedAt, RepliedInPart, RepliedToSome}
+use Rattle.office_run.specs.ScriptGrammar.{Reads}
+use Rattle.office_run.specs.ScriptReading.{command_at}
+use Rattle.office_run.specs.Serving.{disks_at, IsOpenDesk}
+use Rattle.office_run.proofs.Backed.{kept_from_backed}
 use Rattle.office_run.proofs.CommandTexts.{begins-command_at}
-use Rattle.office_run.proofs.Scripts.{Reads-snoc, no_first, begins-size}
-use Rattle.command_machine.proofs.Machines.{AreCommands, commands_more, sound_at, load, load_after, after_all-snoc, replies_text-snoc}
-use Rattle.command_machine.proofs.Commands.{left_is, carried_reply, carried_machine}
+use Rattle.office_run.proofs.Scripts.{Reads-snoc, no_first}
+use Rattle.office_run.proofs.Switched.{SwitchedTo, switched_more, switched_since, never-trans, replies_more, text_of-more}
+use Rattle.office_state.specs.OfficeState.{office_limits}
 
--- the commands so far have their replies, the desk keeps the machine after them, and rest is left of the script; what is booked and what is left of the job is no more than was read
-pub record Served (script : List ℕ) (old new : Option (List ℕ)) (rest : List ℕ) (desk : Desk) (count : ℕ) : Type 0 where
-  pub commands : List Command
-  pub lawful : AreCommands commands
-  pub reads : Reads script commands rest
-  pub put : Appends old new (replies_text start commands)
-  pub kept : ShowsMachine desk (after_all start commands)
-  pub count_is : count ≡ length commands
-  pub small : load (after_all start commands) + length rest ≤ length script
+module _ {D : Type 0} (state : D → DiskState) where
+  -- a desk that shows a lawful moment is at the last moment of a run that ends now
+  pub last_of : (desk : Desk D) (m : Moment) → ShowsMachine state desk m → IsLawful m.machine → IsLast (disks_at state desk) m
+  last_of desk m shows lawful = record {
+    counts = shows.counts;
+    backed = shows.world.images;
+    kept = λ image left. (
+        let found = shows.world.images image left in
+        let again = kept_from_backed office_limits office_bounds m.machine.world found.0 lawful.world shows.world.duty found.2 in
+        (found.0, found.1, again.0, again.1));
+  }
 
-pub served_none : (script : List ℕ) (held : Option (List ℕ)) (desk : Desk) → ShowsMachine desk start → Served script held held script desk 0
-served_none script held desk h = record { commands = []; lawful = tt; reads = refl; put = Appends-nil held; kept = h; count_is = refl; small = omega arith }
+  -- before the first command
+  pub idle : (desk : Desk D) → IsOpenDesk state desk → IsIdle (disks_at state desk) (disks_at state desk)
+  idle desk opened honest = let first = opened.first honest in (first.0, first.1, last_of desk first.0 first.2 first.3)
 
--- what is booked and what is left of the job
-pub served_room : (script : List ℕ) (old new : Option (List ℕ)) (rest : List ℕ) (desk : Desk) (count : ℕ) → Served script old new rest desk count
-    → desk.office.entries + length (left_of desk.office.state desk.job) ≤ length script
-served_room script old new rest desk count so_far =
-    let m = after_all start so_far.commands in
-    omega (arith, so_far.small, so_far.kept.office.entries, ap length (left_is desk m so_far.kept))
+  -- no command more
+  pub keeps-refl : (desk : Desk D) → Keeps state desk desk
+  keeps-refl desk = record { b = refl; duty = refl; bounds = refl; counts = λ disk. omega arith; booked = omega arith }
 
--- one command more was carried out, and its reply was put
-pub served_more : (script : List ℕ) (old mid new : Option (List ℕ)) (rest later : List ℕ) (desk desk' : Desk) (count : ℕ) (next : Command) (r : Reply)
-    → Served script old mid rest desk count → Some (next, later) ≡ command_at rest → CarriesOut desk desk' (row_at desk next) r
-    → Appends mid new (reply_text (reply_of desk'.office.state desk'.job r))
-    → Served script old new later desk' (count + 1)
-served_more script old mid new rest later desk desk' count next r so_far first did put =
-    let m = after_all start so_far.commands in
-    let begins = begins-command_at rest next later (sym first) in
-    let told = subst (λ (x : AnyReply). Appends mid new (reply_text x)) (carried_reply desk m so_far.kept desk' next r did) put in
-    let both = Appends-trans old mid new (replies_text start so_far.commands) (reply_text (reply m next)) so_far.put told in
-    record {
-      commands = so_far.commands ++ next ∷ [];
-      lawful = commands_more so_far.commands next so_far.lawful begins.lawful;
-      reads = Reads-snoc script so_far.commands next rest later so_far.reads begins;
-      put = subst (Appends old new) (sym (replies_text-snoc start so_far.commands next)) both;
-      kept = subst (ShowsMachine desk') (sym (after_all-snoc start so_far.commands next)) (carried_machine desk m so_far.kept desk' next r did);
-      count_is = omega (arith, so_far.count_is, length-append so_far.commands (next ∷ []));
-      small = omega (arith, so_far.small, begins-size rest next later begins, load_after m next begins.lawful (sound_at so_far.commands so_far.lawful), ap load (after_all-snoc start so_far.commands next));
-    }
+  keeps-trans : (from mid now : Desk D) → Keeps state from mid → Keeps state mid now → Keeps state from now
+  keeps-trans from mid now first second = record {
+    b = second.b ∙ first.b;
+    duty = second.duty ∙ first.duty;
+    bounds = second.bounds ∙ first.bounds;
+    counts = never-trans (counts_of state from) (counts_of state mid) (counts_of state now) first.counts second.counts;
+    booked = omega (arith, first.booked, second.booked);
+  }
 
--- the last reply was put in part
-pub served_part : (script : List ℕ) (old mid new : Option (List ℕ)) (rest later : List ℕ) (desk desk' : Desk) (count : ℕ) (next : Command) (r : Reply)
-    → Served script old mid rest desk count → Some (next, later) ≡ command_at rest → CarriesOut desk desk' (row_at desk next) r
-    → AppendsPart mid new (reply_text (reply_of desk'.office.state desk'.job r))
-    → RepliedInPart script old new
-served_part script old mid new rest later desk desk' count next r so_far first did put =
-    let m = after_all start so_far.commands in
-    let part = subst (λ (x : AnyReply). AppendsPart mid new (reply_text x)) (carried_reply desk m so_far.kept desk' next r did) put in
-    record {
-      commands = so_far.commands;
-      next = next;
-      rest = later;
-      reads = Reads-snoc script so_far.commands next rest later so_far.reads (begins-command_at rest next later (sym first));
-      count = part.0;
-      part = part.1;
-      put = Appends-trans old mid new (replies_text start so_far.commands) (take part.0 (reply_text (reply m next))) so_far.put part.2;
-    }
+  -- the commands are carried out with these replies
+  pub record Carried (from desk : Desk D) (commands : List Command) (told : List Reply) : Type 0 where
+    pub switched : SwitchedTo (counts_of state from) (is_up from) commands told (counts_of state desk) (is_up desk)
+    pub machine : (m : Moment) → ShowsMachine state from m → IsLawful m.machine
+        → (last : Moment) × ShowsMachine state desk last × IsLawful last.machine × Replies m commands told last
+    pub kept : Keeps state from desk
 
-pub served_all : (script : List ℕ) (old new : Option (List ℕ)) (rest : List ℕ) (desk : Desk) (count : ℕ) → Served script old new rest desk count → rest ≡ [] → RepliedToAll script old new
-served_all script old new rest desk count so_far none =
-    let P : List ℕ → Type 0 = λ z. Reads script so_far.commands z in
-    record { commands = so_far.commands; reads = subst P none so_far.reads; put = so_far.put }
+  pub carried_more : (from desk now : Desk D) (commands : List Command) (told : List Reply) (next : Command) (reply : MadeReply)
+      → Carried from desk commands told → Carries state desk now next (Ok reply) → Switches state desk now next (Ok reply) → Keeps state desk now
+      → Carried from now (commands ++ next ∷ []) (told ++ reply_of (table_of now) now.job reply ∷ [])
+  carried_more from desk now commands told next reply so_far carries switches keeps =
+      let r = reply_of (table_of now) now.job reply in
+      record {
+        switched = switched_more (counts_of state from) (is_up from) commands told (counts_of state desk) (is_up desk) next r (counts_of state now) (is_up now) so_far.switched keeps.counts switches;
+        machine = λ m shows lawful. (
+            let before = so_far.machine m shows lawful in
+            let after = carries before.0 before.1 before.2 in
+            (after.0, after.1, after.2, replies_more m commands told before.0 next r after.0 before.3 after.3));
+        kept = keeps-trans from desk now so_far.kept keeps;
+      }
 
-pub served_some : (script : List ℕ) (old new : Option (List ℕ)) (rest : List ℕ) (desk : Desk) (count : ℕ) → Served script old new rest desk count → RepliedToSome script old new
-served_some script old new rest desk count so_far = record { commands = so_far.commands; rest = rest; reads = so_far.reads; put = so_far.put }
+  -- what that is of the disks
+  since : (from desk : Desk D) (commands : List Command) (told : List Reply) (now : Desk D) → IsOpenDesk state from → Carried from desk commands told → Keeps state desk now
+      → AreSwitchedSince (disks_at state from) (disks_at state now) commands told
+  since from desk commands told now opened so_far keeps =
+      let counts = counts_of state from in
+      let all = switched_since counts (is_up from) commands told (counts_of state desk) (is_up desk) (counts_of state now) so_far.switched keeps.counts in
+      (counts, (λ disk. omega arith), subst (λ up. AreSwitched counts (counts_of state now) up commands told) opened.up all)
 
-pub served_stop : (script : List ℕ) (old new : Option (List ℕ)) (rest : List ℕ) (desk : Desk) (count : ℕ) → Served script old new rest desk count → rest ≢ [] → command_at rest ≡ None → StoppedAt (count + 1) script old new
-served_stop script old new rest desk count so_far more none =
-    record {
-      commands = so_far.commands;
-      stops = record { rest = rest; front = so_far.reads; more = more; stop = no_first rest none };
-      number = omega (arith, so_far.count_is);
+  machines : (from desk : Desk D) (commands : List Command) (told : List Reply) → IsOpenDesk state from → Carried from desk commands told
+      → AreMachines (disks_at state from) (disks_at state desk) commands told
+  machines from desk commands told opened so_far honest =
+      let first = opened.first honest in
+      let last = so_far.machine first.0 first.2 first.3 in
+      (first.0, last.0, first.1, last.3, last_of desk last.0 last.1 last.2)
+
+  -- the commands so far have their replies, and rest is left of the script
+  pub record Served (script : List ℕ) (old new : Option (List ℕ)) (rest : List ℕ) (from desk : Desk D) (count : ℕ) : Type 0 where
+    pub commands : List Command
+    pub told : List Reply
+    pub reads : Reads script commands rest
+    pub put : Appends old new (text_of told)
+    pub carried : Carried from desk commands told
+    pub count_is : count ≡ length commands
+
+  pub served_none : (script : List ℕ) (held : Option (List ℕ)) (desk : Desk D) → Served script held held script desk desk 0
+  served_none script held desk = record {
+    commands = [];
+    told = [];
+    reads = refl;
+    put = Appends-nil held;
+    carried = record { switched = (refl, refl, refl); machine = λ m shows lawful. (m, shows, lawful, (refl, refl)); kept = keeps-refl desk };
+    count_is = refl;
+  }
+
+  module _ (script : List ℕ) (old mid new : Option (List ℕ)) (rest : List ℕ) (from desk : Desk D) (count : ℕ) (so_far : Served script old mid rest from desk count) where
+    module _ (now : Desk D) (next : Command) (later : List ℕ) (first : Some (next, later) ≡ command_at rest) where
+      more : Reads script (so_far.commands ++ next ∷ []) later
+      more = Reads-snoc script so_far.commands next rest later so_far.reads (begins-command_at rest next later (sym first))
+
+      -- one command more was carried out, and its reply was put
+      pub served_more : (reply : MadeReply) → Carries state desk now next (Ok reply) → Switches state desk now next (Ok reply) → Keeps state desk now
+          → Appends mid new (reply_text (reply_of (table_of now) now.job reply)) → Served script old new later from now (count + 1)
+      served_more reply carries switches keeps put =
+          let r = reply_of (table_of now) now.job reply in
+          record {
+            commands = so_far.commands ++ next ∷ [];
+            told = so_far.told ++ r ∷ [];
+            reads = more;
+            put = subst (Appends old new) (sym (text_of-more so_far.told r)) (Appends-trans old mid new (text_of so_far.told) (reply_text r) so_far.put put);
+            carried = carried_more from desk now so_far.commands so_far.told next reply so_far.carried carries switches keeps;
+            count_is = omega (arith, so_far.count_is, length-append so_far.commands (next ∷ []));
+          }
+
+      -- the last reply was put in part
+      pub served_part : (reply : MadeReply) → IsOpenDesk state from → Carries state desk now next (Ok reply) → Switches state desk now next (Ok reply) → Keeps state desk now
+          → AppendsPart mid new (reply_text (reply_of (table_of now) now.job reply)) → RepliedInPart (disks_at state from) (disks_at state now) script old new
+      served_part reply opened carries switches keeps part =
+          let r = reply_of (table_of now) now.job reply in
+          let all = carried_more from desk now so_far.commands so_far.told next reply so_far.carried carries switches keeps in
+          record {
+            commands = so_far.commands;
+            next = next;
+            rest = later;
+            reads = more;
+            told = so_far.told;
+            last = r;
+            count = part.0;
+            part = part.1;
+            put = Appends-trans old mid new (text_of so_far.told) (take part.0 (reply_text r)) so_far.put part.2;
+            switched = since from now (so_far.commands ++ next ∷ []) (so_far.told ++ r ∷ []) now opened all (keeps-refl now);
+            machine = machines from now (so_far.commands ++ next ∷ []) (so_far.told ++ r ∷ []) opened all;
+          }
+
+      -- the command was left for want of memory
+      pub served_some : (e : NoMemory) → IsOpenDesk state from → Carries state desk now next (Err e) → Keeps state desk now
+          → RepliedToSome (disks_at state from) (disks_at state now) script old mid
+      served_some e opened carries keeps = record {
+        commands = so_far.commands;
+        next = next;
+        rest = later;
+        reads = more;
+        told = so_far.told;
+        put = so_far.put;
+        switched = since from desk so_far.commands so_far.told now opened so_far.carried keeps;
+        machine = λ honest. (
+            let first = opened.first honest in
+            let whole = so_far.carried.machine first.0 first.2 first.3 in
+            let last = carries whole.0 whole.1 whole.2 in
+            (first.0, whole.0, last.0, first.1, whole.3, last.3, last_of now last.0 last.1 last.2));
+      }
+
+    -- no command is left, or none is read
+    replied : IsOpenDesk state from → RepliedTo (disks_at state from) (disks_at state desk) so_far.commands old mid
+    replied opened = record {
+      told = so_far.told;
       put = so_far.put;
+      switched = since from desk so_far.commands so_far.told desk opened so_far.carried (keeps-refl desk);
+      machine = machines from desk so_far.commands so_far.told opened so_far.carried;
+    }
+
+    pub served_all : IsOpenDesk state from → rest ≡ [] → RepliedToAll (disks_at state from) (disks_at state desk) script old mid
+    served_all opened none =
+        let P : List ℕ → Type 0 = λ z. Reads script so_far.commands z in
+        record { commands = so_far.commands; reads = subst P none so_far.reads; replied = replied opened }
+
+    pub served_stop : IsOpenDesk state from → rest ≢ [] → command_at rest ≡ None → StoppedAt (disks_at state from) (disks_at state desk) (count + 1) script old mid
+    served_stop opened some none = record {
+      commands = so_far.commands;
+      stops = record { rest = rest; front = so_far.reads; more = some; stop = no_first rest none };
+      number = omega (arith, so_far.count_is);
+      replied = replied opened;
     }

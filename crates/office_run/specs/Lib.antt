@@ -3,5 +3,8 @@ pub mod ScriptReading
 pub mod Words
 pub mod ScriptInput
 pub mod InputFaults
+pub mod Disks
+pub mod Replied
 pub mod Exit
-pub mod Served
+pub mod Serving
+pub mod Formatted

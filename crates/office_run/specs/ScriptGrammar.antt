@@ -1,8 +1,8 @@
 -- The grammar of scripts: a list of commands, each by its text.
 use Rattle.std.specs.Prelude.{◌≡◌, ◌≢◌, ◌⊎◌, ℕ, List, [], ◌∷◌, ◌++◌, length, codes}
 use Rattle.office_entry.specs.EditText.{IsEditText}
-use Rattle.command_machine.specs.Commands.{Command, Ask, File, Edit, Next, Batch, IsCommand}
-use Rattle.command_machine.specs.CommandText.{ask_text, file_text, edit_text}
+use Rattle.command_machine.specs.Commands.{Command, Ask, File, Edit, Next, Batch, Stop, Start, IsCommand}
+use Rattle.command_machine.specs.CommandText.{ask_text, file_text, edit_text, stop_text, start_text}
 
 -- the bytes are the end of a line, which may be missing at the end of the bytes; rest is what is left
 abbrev pub LineEnds : List ℕ → List ℕ → Type 0
@@ -19,6 +19,8 @@ Spelled bytes (File content) rest = (left : List ℕ) × BeginsLine bytes (file_
 Spelled bytes (Edit editor serial edit) rest = (text : List ℕ) × IsEditText text edit × BeginsLine bytes (edit_text editor serial text) rest
 Spelled bytes Next rest = BeginsLine bytes (codes "NEXT") rest
 Spelled bytes Batch rest = BeginsLine bytes (codes "BATCH") rest
+Spelled bytes Stop rest = BeginsLine bytes stop_text rest
+Spelled bytes Start rest = BeginsLine bytes start_text rest
 
 -- the bytes begin with a command; rest is what is left
 pub record BeginsWith (bytes : List ℕ) (command : Command) (rest : List ℕ) : Type 0 where

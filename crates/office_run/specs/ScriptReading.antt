@@ -2,7 +2,7 @@
 use Rattle.std.specs.Prelude.{ℕ, ◌==◌, nat_lt, List, [], ◌∷◌, length, take, drop, Option, Some, None, unwrap_or, if◌then◌else◌}
 use Rattle.ali_base.specs.Steps.{◌>>=◌, when}
 use Rattle.text_line.specs.WordReading.{split_once}
-use Rattle.command_machine.specs.Commands.{Command, Ask, File, Edit, Next, Batch}
+use Rattle.command_machine.specs.Commands.{Command, Ask, File, Edit, Next, Batch, Stop, Start}
 use Rattle.command_machine.specs.LineReading.{line_of}
 use Rattle.command_machine.specs.declared.command_line.CommandLine.{CommandLine}
 use Rattle.command_machine.specs.declared.command_line.CommandLine.TheVariants as line
@@ -27,6 +27,8 @@ command_of_line rest (line.File len) = content_at len rest
 command_of_line rest (line.Edit editor serial edit) = Some (Edit editor serial edit, rest)
 command_of_line rest line.Next = Some (Next, rest)
 command_of_line rest line.Batch = Some (Batch, rest)
+command_of_line rest line.Stop = Some (Stop, rest)
+command_of_line rest line.Start = Some (Start, rest)
 
 -- the first command, and what is left after it
 unfoldable pub command_at : List ℕ → Option (Command × List ℕ)

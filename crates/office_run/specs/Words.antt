@@ -8,12 +8,16 @@ use Rattle.ali_base.specs.Columns.{is_empty}
 abbrev pub is_word : List ℕ → Bool
 is_word text = not (is_empty text) && not (slice_index text 0 == 45)
 
--- `run DIR`
+-- `run DIR` and `format DIR`: the first word, and a directory
+abbrev pub is_form : List ℕ → List (List ℕ) → Bool
+is_form word (first ∷ dir ∷ []) = bytes_eq first word && is_word dir
+is_form word words = false
+
 abbrev pub is_run : List (List ℕ) → Bool
-is_run [] = false
-is_run (first ∷ []) = false
-is_run (first ∷ dir ∷ []) = bytes_eq first (codes "run") && is_word dir
-is_run (first ∷ dir ∷ more ∷ words) = false
+is_run words = is_form (codes "run") words
+
+abbrev pub is_format : List (List ℕ) → Bool
+is_format words = is_form (codes "format") words
 
 -- the words' bytes
 abbrev pub texts : List (Bor (List ℕ)) → List (List ℕ)

@@ -45,6 +45,8 @@ fn command_of_line<'a>(rest: &'a [u8], line: &CommandLine) -> Option<(Command<'a
         }
         CommandLine::Next => Some((Command::Next, rest)),
         CommandLine::Batch => Some((Command::Batch, rest)),
+        CommandLine::Stop => Some((Command::Stop, rest)),
+        CommandLine::Start => Some((Command::Start, rest)),
     }
 }
 

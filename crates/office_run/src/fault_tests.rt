@@ -1,5 +1,5 @@
 //! Runs in which the source or the sink fails.
-use crate::tests::{REPLIES, THREE, add_file, add_records, header, run, trailer};
+use crate::tests::{REPLIES, THREE, add_file, add_records, disks, header, run, trailer};
 use crate::{Status, office};
 use ali_base::{MemSink, MemSource, Source, Taken};
 use std::alloc::Global;
@@ -74,7 +74,9 @@ fn failures_at_each_put(rt: HostRuntime) -> Result<(), Fail> {
 fn sink_takes_nothing(rt: HostRuntime) -> Result<(), Fail> {
     let mut source = MemSource::new(THREE.to_vec(rt.alloc())?, 300, Vec::new(rt.alloc()));
     let mut sink = MemSink::new(rt.alloc(), 0, Vec::new(rt.alloc()))?;
-    let status = office(rt.alloc(), &["run", "DIR"], &mut source, &mut sink);
+    let (a, b, duty) = disks(rt.alloc())?;
+    let words = ["run", "DIR"];
+    let (status, ..) = office(rt.alloc(), &words, &mut source, &mut sink, a, b, duty);
     assert_eq!(rt; status, Status::SinkFault);
     assert_eq!(rt; sink.faults(), 1);
     Ok(())
@@ -107,7 +109,9 @@ impl Source for Endless {
 fn source_without_end(rt: HostRuntime) -> Result<(), Fail> {
     let mut source = Endless { given: 0 };
     let mut sink = MemSink::new(rt.alloc(), 100, Vec::new(rt.alloc()))?;
-    let status = office(rt.alloc(), &["run", "DIR"], &mut source, &mut sink);
+    let (a, b, duty) = disks(rt.alloc())?;
+    let words = ["run", "DIR"];
+    let (status, ..) = office(rt.alloc(), &words, &mut source, &mut sink, a, b, duty);
     assert_eq!(rt; status, Status::TooLong);
     assert_eq!(rt; source.given, 67_108_865);
     assert_eq!(rt; sink.bytes().len(), 0);

@@ -2,16 +2,22 @@
 #![tactic(auto)]
 
 mod command;
+mod formatting;
 mod input;
 mod laws;
 mod run;
 mod status;
 mod words;
 
-pub use laws::{commands_are_read_as_spelled, limit_of_scripts, scripts_have_one_reading};
+pub use laws::{
+    commands_are_read_as_spelled, formatted_disks_are_honest, limit_of_scripts,
+    scripts_have_one_reading,
+};
 pub use run::office;
 pub use status::Status;
 
+#[cfg(test)]
+mod crash_tests;
 #[cfg(test)]
 mod fault_tests;
 #[cfg(test)]

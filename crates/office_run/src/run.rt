@@ -1,89 +1,161 @@
 //! The call that does all that the program does.
 ghost use Rattle.std.specs.Prelude.{◌≡◌, ◌↔◌, ◌≤◌, ◌≢◌, true, false, length};
 ghost use Rattle.ali_base.specs.Faults.{Rose};
+ghost use Rattle.command_machine.specs.OpenedDesk.{Keeps as KeepsDesk};
+ghost use Rattle.office_run.specs.Disks.{disks_of};
+ghost use Rattle.office_run.specs.Exit.{Exit, DiskCause, Completes};
+ghost use Rattle.office_run.specs.Formatted.{Formats};
+ghost use Rattle.office_run.specs.Serving.{IsOpenDesk, IsServed, Serves, disks_at, end_status};
+ghost use Rattle.office_run.specs.Words.{is_run, is_format, texts};
 ghost use Rattle.office_run.specs.declared.input.TheConstants.{SCRIPT_LIMIT};
-ghost use Rattle.command_machine.specs.Machine.{start};
-ghost use Rattle.command_machine.specs.MadeReply.{ShowsMachine};
-ghost use Rattle.office_run.specs.Exit.{Exit, Completes};
-ghost use Rattle.office_run.specs.Served.{Serves};
-ghost use Rattle.office_run.specs.Words.{is_run, texts};
 
 use crate::command::first_command;
+use crate::formatting::format;
 use crate::input::{InputFault, read_all};
 use crate::status::Status;
-use crate::words::is_run;
+use crate::words::{is_format, is_run};
 use ali_base::{NoMemory, Sink, Source};
 use command_machine::Desk;
+use crash_disk::Disk;
+use node_journal::{an_image_is_read_one_way, frames_are_known_from_the_image};
+use pair_core::OpenEnd;
 use std::alloc::Global;
 
-/// Runs the script that the source holds, where the words are `run DIR`: it reads the source to its
-/// end, and then answers the commands one after the other, each reply put whole before the next
-/// command. DIR is not used yet.
-pub fn office<S: Source, K: Sink>(
+/// Does what the words say, and hands the disks a, b and duty back with the status.
+///
+/// `run DIR` opens disk a, reads the source to its end, and then answers the commands of the script
+/// one after the other, each reply put whole before the next command. `format DIR` formats disk a.
+/// The two other disks are not touched. DIR is where `main` finds the disks.
+pub fn office<S: Source, K: Sink, D: Disk + Drop>(
     alloc: Global,
     words: &[&str],
     source: &mut S,
     sink: &mut K,
-) -> Status
+    a: D,
+    b: D,
+    duty: D,
+) -> (Status, D, D, D)
     // The words decide whether anything is called.
-    ensures usage { (result ≡ Status.Usage) ↔ (is_run (texts words.now) ≡ false) }
-    ensures untouched { result ≡ Status.Usage → (source.new ≡ source.old) × (sink.new ≡ sink.old) }
+    ensures usage { (result.0 ≡ Status.Usage)
+        ↔ ((is_run (texts words.now) ≡ false) × (is_format (texts words.now) ≡ false)) }
+    ensures untouched { result.0 ≡ Status.Usage
+        → (source.new ≡ source.old) × (sink.new ≡ sink.old) × (result.1 ≡ a) }
+    ensures others { (result.2 ≡ b) × (result.3 ≡ duty) }
 
-    // What was taken and put is what the status says, over the replies of one machine.
-    ensures exit { Exit (S.left source.old) (S.left source.new)
-        (K.contents sink.old) (K.contents sink.new) result }
+    // Of a run, what was taken, put and done is what the status says: over an honest disk the replies
+    // are those of one machine over one booked history, and whatever a crash may leave keeps it.
+    ensures exit { is_run (texts words.now) ≡ true
+        → Exit (disks_of D.state a b duty) (disks_of D.state result.1 result.2 result.3)
+        (S.left source.old) (S.left source.new) (K.contents sink.old) (K.contents sink.new) result.0 }
 
-    // A fault is answered only where it shows in the count of its object.
-    ensures source_fault { result ≡ Status.SourceFault
+    // A fault is answered only where it shows in the count of its object, and what is said of a disk
+    // only where its bytes show it.
+    ensures source_fault { result.0 ≡ Status.SourceFault
         → Rose (S.faults source.old) (S.faults source.new) }
-    ensures sink_fault { result ≡ Status.SinkFault → Rose (K.faults sink.old) (K.faults sink.new) }
+    ensures sink_fault { result.0 ≡ Status.SinkFault → Rose (K.faults sink.old) (K.faults sink.new) }
+    ensures disk_cause { is_run (texts words.now) ≡ true → DiskCause (D.state a) (D.state result.1) result.0 }
 
     // Where nothing fails, all of a script is done.
     ensures complete { is_run (texts words.now) ≡ true
-        → Completes (S.left source.old)
+        → Completes (S.left source.old) (disks_of D.state a b duty)
         (Rose (S.faults source.old) (S.faults source.new))
-        (Rose (K.faults sink.old) (K.faults sink.new)) result }
+        (Rose (K.faults sink.old) (K.faults sink.new))
+        (Rose (D.state a).faults (D.state result.1).faults) result.0 }
+
+    // Formatting takes an empty disk, and leaves the source untouched.
+    ensures formats { is_format (texts words.now) ≡ true
+        → (source.new ≡ source.old) × Formats (D.state a) (D.state result.1)
+        (K.contents sink.old) (K.contents sink.new) result.0 }
 {
-    if !is_run(words) {
-        return Status::Usage;
+    if is_run(words) {
+        // An image that stands for a journal is neither foreign nor damaged.
+        an_image_is_read_one_way();
+        return run(alloc, source, sink, a, b, duty);
     }
-    run(alloc, source, sink)
+    if is_format(words) {
+        let mut a = a;
+        let status = format(sink, &mut a);
+        return (status, a, b, duty);
+    }
+    (Status::Usage, a, b, duty)
 }
 
-// Reads the source to its end, and runs what it held.
-fn run<S: Source, K: Sink>(alloc: Global, source: &mut S, sink: &mut K) -> Status
-    ensures exit { Exit (S.left source.old) (S.left source.new)
-        (K.contents sink.old) (K.contents sink.new) result }
-    ensures not_usage { result ≢ Status.Usage }
+// Opens the disks, reads the source to its end, and runs what it held.
+fn run<S: Source, K: Sink, D: Disk + Drop>(
+    alloc: Global,
+    source: &mut S,
+    sink: &mut K,
+    a: D,
+    b: D,
+    duty: D,
+) -> (Status, D, D, D)
+    ensures exit { Exit (disks_of D.state a b duty) (disks_of D.state result.1 result.2 result.3)
+        (S.left source.old) (S.left source.new) (K.contents sink.old) (K.contents sink.new) result.0 }
+    ensures others { (result.2 ≡ b) × (result.3 ≡ duty) }
+    ensures source_fault { result.0 ≡ Status.SourceFault
+        → Rose (S.faults source.old) (S.faults source.new) }
+    ensures sink_fault { result.0 ≡ Status.SinkFault → Rose (K.faults sink.old) (K.faults sink.new) }
+    ensures disk_cause { DiskCause (D.state a) (D.state result.1) result.0 }
+{
+    // An image stands for one journal alone.
+    frames_are_known_from_the_image();
+    let mut desk = match Desk::open(alloc, a, b, duty) {
+        Ok(desk) => desk,
+        Err((a, b, duty, end)) => return (not_opened(end), a, b, duty),
+    };
+    let status = serve(alloc, &mut desk, source, sink);
+    let (a, b, duty) = desk.close();
+    (status, a, b, duty)
+}
+
+// The status where the disks are not opened.
+fn not_opened(end: OpenEnd) -> Status
+    ensures { result ≡ end_status end }
+{
+    match end {
+        OpenEnd::OpenFault(disk) => Status::OpenFault(disk),
+        OpenEnd::Foreign(disk) => Status::Foreign(disk),
+        OpenEnd::Damaged(disk, frame) => Status::Damaged(disk, frame),
+        OpenEnd::NoMemory => Status::NoMemory,
+    }
+}
+
+// Reads the source to its end, and runs the script at the desk.
+fn serve<S: Source, K: Sink, D: Disk + Drop>(
+    alloc: Global,
+    desk: &mut Desk<D>,
+    source: &mut S,
+    sink: &mut K,
+) -> Status
+    requires opened { IsOpenDesk D.state desk.old }
+    ensures exit { Exit (disks_at D.state desk.old) (disks_at D.state desk.new)
+        (S.left source.old) (S.left source.new) (K.contents sink.old) (K.contents sink.new) result }
+    ensures served { IsServed result }
+    ensures keeps { KeepsDesk D.state desk.old desk.new }
     ensures source_fault { result ≡ Status.SourceFault
         → Rose (S.faults source.old) (S.faults source.new) }
     ensures sink_fault { result ≡ Status.SinkFault → Rose (K.faults sink.old) (K.faults sink.new) }
 {
     match read_all(alloc, source) {
-        Ok(script) => serve(alloc, &script, sink),
+        Ok(script) => answer_all(alloc, desk, &script, sink),
         Err(InputFault::NoMemory) => Status::NoMemory,
         Err(InputFault::Failed) => Status::SourceFault,
         Err(InputFault::TooLong) => Status::TooLong,
     }
 }
 
-// Runs a script at an empty desk.
-fn serve<K: Sink>(alloc: Global, script: &[u8], sink: &mut K) -> Status
-    requires { length script.now ≤ SCRIPT_LIMIT }
-    ensures serves { Serves script.now (K.contents sink.old) (K.contents sink.new) result }
-    ensures sink_fault { result ≡ Status.SinkFault → Rose (K.faults sink.old) (K.faults sink.new) }
-{
-    match Desk::new(alloc) {
-        Ok(mut desk) => answer_all(alloc, &mut desk, script, sink),
-        Err(NoMemory) => Status::NoMemory,
-    }
-}
-
 // Answers the commands one after the other, and puts each reply whole before the next command.
-fn answer_all<K: Sink>(alloc: Global, desk: &mut Desk, script: &[u8], sink: &mut K) -> Status
-    requires empty { ShowsMachine desk.old start }
+fn answer_all<K: Sink, D: Disk + Drop>(
+    alloc: Global,
+    desk: &mut Desk<D>,
+    script: &[u8],
+    sink: &mut K,
+) -> Status
+    requires opened { IsOpenDesk D.state desk.old }
     requires limit { length script.now ≤ SCRIPT_LIMIT }
-    ensures serves { Serves script.now (K.contents sink.old) (K.contents sink.new) result }
+    ensures serves { Serves (disks_at D.state desk.old) (disks_at D.state desk.new)
+        script.now (K.contents sink.old) (K.contents sink.new) result }
+    ensures keeps { KeepsDesk D.state desk.old desk.new }
     ensures sink_fault { result ≡ Status.SinkFault → Rose (K.faults sink.old) (K.faults sink.new) }
 {
     let mut rest = script;

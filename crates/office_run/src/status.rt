@@ -1,6 +1,8 @@
 //! How a run ends.
 ghost use Rattle.std.specs.Prelude.{◌≡◌};
 
+use ali_base::DiskName;
+
 /// How a run ended.
 #[derive(Clone, Copy, Debug, PartialEq, Eq)]
 pub enum Status {
@@ -16,6 +18,14 @@ pub enum Status {
     Script(u32),
     /// The script has more than 67,108,864 bytes; nothing was run.
     TooLong,
+    /// The disk failed while it was opened or formatted.
+    OpenFault(DiskName),
+    /// The disk does not begin as its format does.
+    Foreign(DiskName),
+    /// The frame of this number is committed, and is not there as a whole, or is past the limit.
+    Damaged(DiskName, u32),
+    /// The disk that is to be formatted is not empty.
+    NotEmpty(DiskName),
     /// Memory ran out.
     NoMemory,
 }
@@ -34,6 +44,8 @@ impl Status {
             Status::SinkFault => 4,
             Status::Script(_) => 5,
             Status::TooLong => 6,
+            Status::OpenFault(_) => 7,
+            Status::Foreign(_) | Status::Damaged(..) | Status::NotEmpty(_) => 8,
             Status::NoMemory => 9,
         }
     }

@@ -2,7 +2,9 @@
 ghost use Rattle.std.specs.Prelude.{◌+◌, ◌≤◌, length};
 
 use crate::{Status, office};
-use ali_base::{MemSink, MemSource};
+use ali_base::{MemSink, MemSource, NoMemory, NodeName};
+use crash_disk::MemDisk;
+use node_journal::format;
 use office_fixtures::{SentRecord, put};
 use std::alloc::Global;
 use std::test::Fail;
@@ -61,6 +63,18 @@ pub(crate) struct Ended {
     pub(crate) sink: MemSink,
 }
 
+// An empty disk with room for a journal of 99 entries.
+pub(crate) fn empty(alloc: Global) -> Result<MemDisk, NoMemory> {
+    MemDisk::new(alloc, 64_000, 262_144, Vec::new(alloc))
+}
+
+// Disk a, which is formatted, and two that are not touched.
+pub(crate) fn disks(alloc: Global) -> Result<(MemDisk, MemDisk, MemDisk), NoMemory> {
+    let mut a = empty(alloc)?;
+    let _ = format(&mut a, NodeName::A);
+    Ok((a, empty(alloc)?, empty(alloc)?))
+}
+
 // Runs a script, of which a take gives 300 bytes at most, with calls that fail.
 pub(crate) fn run(
     alloc: Global,
@@ -72,7 +86,8 @@ pub(crate) fn run(
     let puts = failing_puts.to_vec(alloc)?;
     let mut source = MemSource::new(script.to_vec(alloc)?, 300, takes);
     let mut sink = MemSink::new(alloc, 16384, puts)?;
-    let status = office(alloc, &["run", "DIR"], &mut source, &mut sink);
+    let (a, b, duty) = disks(alloc)?;
+    let (status, ..) = office(alloc, &["run", "DIR"], &mut source, &mut sink, a, b, duty);
     Ok(Ended { status, sink })
 }
 
@@ -655,9 +670,12 @@ fn empty_script_and_other_words(rt: HostRuntime) -> Result<(), Fail> {
     let empty = run(rt.alloc(), b"", &[], &[])?;
     assert_eq!(rt; empty.status, Status::Done);
     assert_eq!(rt; empty.sink.bytes().len(), 0);
-    let cases: [&[&str]; 6] = [
+    let cases: [&[&str]; 9] = [
         &[],
         &["run"],
+        &["format"],
+        &["format", "-d"],
+        &["format", "DIR", "DIR"],
         &["run", ""],
         &["run", "-d"],
         &["walk", "DIR"],
@@ -666,7 +684,8 @@ fn empty_script_and_other_words(rt: HostRuntime) -> Result<(), Fail> {
     for words in cases {
         let mut source = MemSource::new(THREE.to_vec(rt.alloc())?, 300, Vec::new(rt.alloc()));
         let mut sink = MemSink::new(rt.alloc(), 0, Vec::new(rt.alloc()))?;
-        let status = office(rt.alloc(), words, &mut source, &mut sink);
+        let (a, b, duty) = disks(rt.alloc())?;
+        let (status, ..) = office(rt.alloc(), words, &mut source, &mut sink, a, b, duty);
         assert_eq!(rt; status, Status::Usage);
     }
     Ok(())

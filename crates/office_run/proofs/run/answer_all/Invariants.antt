@@ -6,7 +6,7 @@ abbrev pub invariant-loop-rest : goal.invariant-loop-rest
 invariant-loop-rest g l =
     let contents = g.K.Sink.contents in
     record {
-      served : Served l.script (contents l.fn.sink) (contents l.sink) l.rest l.desk l.count;
+      served : Served g.D.Disk.state l.script (contents l.fn.sink) (contents l.sink) l.rest l.fn.desk l.desk l.count;
       small : l.count + length l.rest ≤ length l.script;
       later : g.K.Sink.faults l.fn.sink ≤ g.K.Sink.faults l.sink;
     }

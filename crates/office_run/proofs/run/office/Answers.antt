@@ -1,13 +1,17 @@
 use Rattle.ali_base.specs.Faults.{Rose}
-use Rattle.office_run.proofs.Completeness.{completes}
+use Rattle.office_run.specs.Disks.{disks_of}
+use Rattle.office_run.proofs.Completeness.{completes, honest_is_sane}
 use Rattle.office_run.proofs.run.office.Goals as goal
 
-pub returns-clause-complete : goal.returns-clause-complete
-returns-clause-complete g c is_run =
-    let left = g.S.Source.left in
+pub returns-then-is_run-clause-complete : goal.returns-then-is_run-clause-complete
+returns-then-is_run-clause-complete g c is_run =
+    let state = g.D.Disk.state in
     let contents = g.K.Sink.contents in
     let run = c.run.ensures in
-    completes (left c.args.source.now) (left c.run.new.source) (contents c.args.sink.now) (contents c.run.new.sink)
+    let images = c.an_image_is_read_one_way.ensures in
+    completes (disks_of state c.args.a c.args.b c.args.duty) (disks_of state c.run.result.1 c.run.result.2 c.run.result.3)
+    (g.S.Source.left c.run.new.source) (contents c.args.sink.now) (contents c.run.new.sink)
     (Rose (g.S.Source.faults c.args.source.now) (g.S.Source.faults c.run.new.source))
     (Rose (g.K.Sink.faults c.args.sink.now) (g.K.Sink.faults c.run.new.sink))
-    c.run.result run.exit run.not_usage run.source_fault run.sink_fault
+    (g.S.Source.left c.args.source.now) c.run.result.0 run.exit run.disk_cause run.source_fault run.sink_fault
+    (honest_is_sane state c.args.a c.args.b c.args.duty g.met.D.Disk.sound images.not_foreign images.not_damaged)

@@ -1,12 +1,32 @@
-use Rattle.std.proofs.Common.{rules, inl, subst}
-use Rattle.std.specs.Io.KnownBytes.{Keeps}
-use Rattle.office_run.specs.InputFaults.{InputStops}
-use Rattle.office_run.specs.declared.input.InputFault.{InputFault}
+use Rattle.office_run.specs.Disks.{disks_of}
+use Rattle.office_run.specs.Serving.{disks_at}
+use Rattle.office_run.proofs.Ends.{exit_since, later, stays_since, is_read, open_desk, handed_back, served_cause}
 use Rattle.office_run.proofs.run.run.Goals as goal
 
-pub returns-in-Err-NoMemory-clause-exit : goal.returns-in-Err-NoMemory-clause-exit
-returns-in-Err-NoMemory-clause-exit g c =
-    let held = g.K.Sink.contents c.args.sink.now in
-    let P : InputFault → Type 0 = λ fault. InputStops g.S.Source.left g.S.Source.faults c.args.source.now c.read_all.new.source fault in
-    let nothing : Keeps held held = search rules in
-    inl (subst P c.in-Err-NoMemory.field-0-is c.in-Err-NoMemory.ensures.fault, nothing)
+pub serve-status-requires : goal.serve-status-requires
+serve-status-requires g c = record {
+  opened = open_desk g.D.Disk.state c.args.a c.args.b c.args.duty c.in-Ok.desk c.in-Ok.ensures.0 g.met.D.Disk.sound c.frames_are_known_from_the_image.ensures c.in-Ok.ensures.1;
+}
+
+pub returns-clause-exit : goal.returns-clause-exit
+returns-clause-exit g c =
+    let state = g.D.Disk.state in
+    let before = disks_of state c.args.a c.args.b c.args.duty in
+    let from = disks_at state c.in-Ok.desk in
+    let now = disks_at state c.serve-status.new.desk in
+    let left = g.S.Source.left c.args.source.now in
+    let left' = g.S.Source.left c.serve-status.new.source in
+    let old = g.K.Sink.contents c.args.sink.now in
+    let new = g.K.Sink.contents c.serve-status.new.sink in
+    let status = c.serve-status.result in
+    let opened = c.in-Ok.ensures.0 in
+    let since = exit_since before from now (later state c.args.a c.args.b c.args.duty c.in-Ok.desk opened) left left' old new
+    (stays_since state c.args.a c.args.b c.args.duty c.in-Ok.desk opened (g.met.D.Disk.sound c.args.a) now.a) status c.serve-status.ensures.served c.serve-status.ensures.exit in
+    handed_back state c.args.a c.args.b c.args.duty c.serve-status.new.desk c.close-a.result.0 c.close-a.result.1 c.close-a.result.2 left left' old new status
+    c.close-a.ensures.0 c.close-a.ensures.1 c.close-a.ensures.2 since
+
+pub returns-clause-disk_cause : goal.returns-clause-disk_cause
+returns-clause-disk_cause g c =
+    let state = g.D.Disk.state in
+    served_cause (state c.args.a) (state c.close-a.result.0) c.serve-status.result c.serve-status.ensures.served
+    (is_read state c.args.a c.args.b c.args.duty c.in-Ok.desk c.in-Ok.ensures.0)
