@@ -95,10 +95,14 @@ fn found(alloc: Global, disk: &MemDisk, kept: Kept) -> Result<Option<bool>, NoMe
     })
 }
 
-// How many calls of its disk the opening of a journal without frames makes.
+// How many calls of its disk the opening of a journal without frames makes: with one fewer it fails.
 fn opening(alloc: Global) -> Result<u32, NoMemory> {
-    let disk = formatted(alloc)?.after_crash(Kept::New)?;
-    Ok(run(alloc, b"", disk)?.a.calls() as u32)
+    for calls in 0..60 {
+        if stopped(alloc, b"", calls)?.status == Status::Done {
+            return Ok(calls);
+        }
+    }
+    Ok(60)
 }
 
 // After the opening come the body's write and its sync, the commit byte's write and its sync, and a read for the table.
