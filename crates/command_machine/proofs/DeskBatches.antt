@@ -24,8 +24,8 @@ use Rattle.command_machine.proofs.DeskParts.{held_gives, down_gives, same_moment
 use Rattle.command_machine.proofs.DeskRuns.{IsOneEvent, carried, one_event}
 use Rattle.crash_disk.specs.DiskState.{DiskState}
 use Rattle.office_state.specs.OfficeState.{State}
-use Rattle.pair_core.specs.LoneNode as lone
-use Rattle.pair_core.specs.declared.faults.PairFault.TheVariants as faults
+use Rattle.pair_node.specs.LoneNode as lone
+use Rattle.pair_node.specs.declared.faults.LoneFault.TheVariants as faults
 use Rattle.pair_world.specs.Refusals as refusals
 use Rattle.sequence_once.specs.declared.standing.CycleFault.{CycleFault}
 use Rattle.sequence_once.specs.declared.standing.Standing.{Standing}
@@ -91,6 +91,17 @@ ends_batch m (replies.Told (world.Not_due f)) last = record { found_tells = refl
 ends_batch m (replies.Told (world.Failed d)) last = record { found_tells = refl; found_ends = refl; booked_tells = refl; booked_ends = refl }
 ends_batch m (replies.Told (world.Stopped n)) last = record { found_tells = refl; found_ends = refl; booked_tells = refl; booked_ends = refl }
 ends_batch m (replies.Told (world.Started n len known)) last = record { found_tells = refl; found_ends = refl; booked_tells = refl; booked_ends = refl }
+ends_batch m (replies.Told (world.Sent i)) last = record { found_tells = refl; found_ends = refl; booked_tells = refl; booked_ends = refl }
+ends_batch m (replies.Told (world.Behind len k)) last = record { found_tells = refl; found_ends = refl; booked_tells = refl; booked_ends = refl }
+ends_batch m (replies.Told (world.Cut k)) last = record { found_tells = refl; found_ends = refl; booked_tells = refl; booked_ends = refl }
+ends_batch m (replies.Told (world.Stored k i)) last = record { found_tells = refl; found_ends = refl; booked_tells = refl; booked_ends = refl }
+ends_batch m (replies.Told (world.Have k i)) last = record { found_tells = refl; found_ends = refl; booked_tells = refl; booked_ends = refl }
+ends_batch m (replies.Told (world.Have_end k i)) last = record { found_tells = refl; found_ends = refl; booked_tells = refl; booked_ends = refl }
+ends_batch m (replies.Told (world.Acked k e)) last = record { found_tells = refl; found_ends = refl; booked_tells = refl; booked_ends = refl }
+ends_batch m (replies.Told (world.Acked_end k e)) last = record { found_tells = refl; found_ends = refl; booked_tells = refl; booked_ends = refl }
+ends_batch m (replies.Told (world.On_duty d)) last = record { found_tells = refl; found_ends = refl; booked_tells = refl; booked_ends = refl }
+ends_batch m (replies.Told (world.Started_duty d)) last = record { found_tells = refl; found_ends = refl; booked_tells = refl; booked_ends = refl }
+ends_batch m (replies.Told (world.Told_status r)) last = record { found_tells = refl; found_ends = refl; booked_tells = refl; booked_ends = refl }
 ends_batch m (replies.Told (world.Foreign d)) last = record { found_tells = refl; found_ends = refl; booked_tells = refl; booked_ends = refl }
 ends_batch m (replies.Told (world.Damaged d frame)) last = record { found_tells = refl; found_ends = refl; booked_tells = refl; booked_ends = refl }
 ends_batch m (replies.Told world.Ready) last = absurd last

@@ -24,11 +24,11 @@ use Rattle.office_entry.specs.Entries.{IsEntry}
 use Rattle.office_entry.specs.declared.entry.Entry.{Entry}
 use Rattle.office_state.specs.OfficeState.{State, office_limits}
 use Rattle.office_state.specs.declared.limits.Limits.{Limits}
-use Rattle.pair_core.specs.LoneAnswers.{fault_told}
-use Rattle.pair_core.specs.LoneNode as lone
-use Rattle.pair_core.specs.NodeState.{learned_of}
-use Rattle.pair_core.specs.declared.faults.PairFault.{PairFault}
-use Rattle.pair_core.specs.declared.faults.PairFault.TheVariants as faults
+use Rattle.pair_node.specs.LoneAnswers.{fault_told}
+use Rattle.pair_node.specs.LoneNode as lone
+use Rattle.pair_node.specs.NodeState.{learned_of}
+use Rattle.pair_node.specs.declared.faults.LoneFault.{LoneFault}
+use Rattle.pair_node.specs.declared.faults.LoneFault.TheVariants as faults
 use Rattle.pair_world.specs.Changes.{read_failed}
 use Rattle.pair_world.specs.Refusals as refusals
 use Rattle.pair_world.specs.Refusals.{Refusal}
@@ -176,14 +176,14 @@ module _ {D : Type 0} (state : D → DiskState) (old new : Desk D) (call : lone.
       )
 
 -- a fault that is not want of memory is told
-pub record IsTold (fault : PairFault) : Type 0 where
+pub record IsTold (fault : LoneFault) : Type 0 where
   pub told : Told
   pub is : fault_told fault ≡ Some told
   pub reply : fault_reply fault ≡ replies.Told told
   pub other : told ≡ world.Ready → ⊥
   pub last : IsLast (fault_reply fault)
 
-pub told_fault : (fault : PairFault) → (fault ≡ faults.NoMemory → ⊥) → IsTold fault
+pub told_fault : (fault : LoneFault) → (fault ≡ faults.NoMemory → ⊥) → IsTold fault
 told_fault (faults.Down d) other = record { told = world.Refused (refusals.Down d); is = refl; reply = refl; other = λ e. absurd (cc e); last = tt }
 told_fault (faults.Up d) other = record { told = world.Refused (refusals.Up d); is = refl; reply = refl; other = λ e. absurd (cc e); last = tt }
 told_fault (faults.InFlight n) other = record { told = world.Refused (refusals.In_flight n); is = refl; reply = refl; other = λ e. absurd (cc e); last = tt }
@@ -196,10 +196,10 @@ told_fault (faults.Damaged d frame) other = record { told = world.Damaged d fram
 told_fault (faults.Short node have need) other = record { told = world.Refused (refusals.Short node have need); is = refl; reply = refl; other = λ e. absurd (cc e); last = tt }
 told_fault faults.NoMemory other = absurd (other refl)
 
-module _ {D : Type 0} (state : D → DiskState) (old new : Desk D) (call : lone.IsCall state old.office new.office) (kept : new.job ≡ old.job) (fault : PairFault) where
+module _ {D : Type 0} (state : D → DiskState) (old new : Desk D) (call : lone.IsCall state old.office new.office) (kept : new.job ≡ old.job) (fault : LoneFault) where
   -- want of memory leaves all as it was
   pub left_undone : (row : Limits → Bool → World Entry → Row Told (World Entry)) → fault ≡ faults.NoMemory → lone.Does state old.office new.office row (fault_told fault) → Leads state old new Stays
-  left_undone row is does = stays_in state old new call kept row (subst (λ (f : PairFault). lone.Does state old.office new.office row (fault_told f)) is does)
+  left_undone row is does = stays_in state old new call kept row (subst (λ (f : LoneFault). lone.Does state old.office new.office row (fault_told f)) is does)
 
   pub ready_refused : (told : Reply) → told ≡ reply.Refused (refusal.Pair fault) → (fault ≡ faults.NoMemory → ⊥) → lone.Does state old.office new.office (λ limits lasted w. rows.ready_row limits w A) (fault_told fault)
       → Leads state old new (Readies (table_of new) (Ok (Some (reply_of (table_of new) new.job told))))
@@ -231,7 +231,7 @@ module _ {D : Type 0} (state : D → DiskState) (old new : Desk D) where
   found_undone (Ok told) is leads = absurd (cc is)
   found_undone (Err e) is leads = leads
 
-  pub booked_or_not : (kept : new.job ≡ old.job) → lone.IsCall state old.office new.office → (fault : PairFault) (r : Result Reply NoMemory)
+  pub booked_or_not : (kept : new.job ≡ old.job) → lone.IsCall state old.office new.office → (fault : LoneFault) (r : Result Reply NoMemory)
       → MatchResult r (λ told. (told ≡ reply.Refused (refusal.Pair fault)) × (fault ≢ faults.NoMemory)) (λ e. fault ≡ faults.NoMemory)
       → lone.Does state old.office new.office (λ limits lasted w. rows.book_row limits w) (fault_told fault) → Leads state old new (IsBooked (told_by new r))
   booked_or_not kept call fault (Ok told) is does = book_refused state old new call kept fault told is.0 is.1 does

@@ -27,8 +27,8 @@ use Rattle.command_machine.proofs.ShownWorlds.{holder_is, duty_up, node_up, node
 use Rattle.crash_disk.specs.DiskState.{DiskState}
 use Rattle.office_entry.specs.declared.entry.Entry.{Entry}
 use Rattle.office_state.specs.OfficeState.{State, office_limits}
-use Rattle.pair_core.specs.LoneNode as lone
-use Rattle.pair_core.specs.declared.faults.PairFault.TheVariants as faults
+use Rattle.pair_node.specs.LoneNode as lone
+use Rattle.pair_node.specs.declared.faults.LoneFault.TheVariants as faults
 use Rattle.pair_world.specs.Refusals as refusals
 use Rattle.pair_world.specs.Refusals.{Refusal}
 use Rattle.pair_world.specs.World.{World, node_at, holder_journal}
@@ -121,6 +121,17 @@ ends_alike true m (replies.Told (world.Not_due f)) last = record { tells = refl;
 ends_alike true m (replies.Told (world.Failed d)) last = record { tells = refl; next = refl }
 ends_alike true m (replies.Told (world.Stopped n)) last = record { tells = refl; next = refl }
 ends_alike true m (replies.Told (world.Started n len known)) last = record { tells = refl; next = refl }
+ends_alike true m (replies.Told (world.Sent i)) last = record { tells = refl; next = refl }
+ends_alike true m (replies.Told (world.Behind len k)) last = record { tells = refl; next = refl }
+ends_alike true m (replies.Told (world.Cut k)) last = record { tells = refl; next = refl }
+ends_alike true m (replies.Told (world.Stored k i)) last = record { tells = refl; next = refl }
+ends_alike true m (replies.Told (world.Have k i)) last = record { tells = refl; next = refl }
+ends_alike true m (replies.Told (world.Have_end k i)) last = record { tells = refl; next = refl }
+ends_alike true m (replies.Told (world.Acked k e)) last = record { tells = refl; next = refl }
+ends_alike true m (replies.Told (world.Acked_end k e)) last = record { tells = refl; next = refl }
+ends_alike true m (replies.Told (world.On_duty d)) last = record { tells = refl; next = refl }
+ends_alike true m (replies.Told (world.Started_duty d)) last = record { tells = refl; next = refl }
+ends_alike true m (replies.Told (world.Told_status r)) last = record { tells = refl; next = refl }
 ends_alike true m (replies.Told (world.Foreign d)) last = record { tells = refl; next = refl }
 ends_alike true m (replies.Told (world.Damaged d frame)) last = record { tells = refl; next = refl }
 ends_alike true m (replies.Told world.Ready) last = absurd last
@@ -138,6 +149,17 @@ ends_alike false m (replies.Told (world.Not_due f)) last = record { tells = refl
 ends_alike false m (replies.Told (world.Failed d)) last = record { tells = refl; next = refl }
 ends_alike false m (replies.Told (world.Stopped n)) last = record { tells = refl; next = refl }
 ends_alike false m (replies.Told (world.Started n len known)) last = record { tells = refl; next = refl }
+ends_alike false m (replies.Told (world.Sent i)) last = record { tells = refl; next = refl }
+ends_alike false m (replies.Told (world.Behind len k)) last = record { tells = refl; next = refl }
+ends_alike false m (replies.Told (world.Cut k)) last = record { tells = refl; next = refl }
+ends_alike false m (replies.Told (world.Stored k i)) last = record { tells = refl; next = refl }
+ends_alike false m (replies.Told (world.Have k i)) last = record { tells = refl; next = refl }
+ends_alike false m (replies.Told (world.Have_end k i)) last = record { tells = refl; next = refl }
+ends_alike false m (replies.Told (world.Acked k e)) last = record { tells = refl; next = refl }
+ends_alike false m (replies.Told (world.Acked_end k e)) last = record { tells = refl; next = refl }
+ends_alike false m (replies.Told (world.On_duty d)) last = record { tells = refl; next = refl }
+ends_alike false m (replies.Told (world.Started_duty d)) last = record { tells = refl; next = refl }
+ends_alike false m (replies.Told (world.Told_status r)) last = record { tells = refl; next = refl }
 ends_alike false m (replies.Told (world.Foreign d)) last = record { tells = refl; next = refl }
 ends_alike false m (replies.Told (world.Damaged d frame)) last = record { tells = refl; next = refl }
 ends_alike false m (replies.Told world.Ready) last = absurd last

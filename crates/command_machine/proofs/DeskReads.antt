@@ -38,9 +38,9 @@ use Rattle.command_machine.proofs.ShownWorlds.{holder_is, node_up, node_down}
 use Rattle.crash_disk.specs.DiskState.{DiskState}
 use Rattle.number_life.specs.declared.row.Row.{Row as TableRow}
 use Rattle.office_state.specs.OfficeState.{State, OfficeState, office_limits}
-use Rattle.pair_core.specs.LoneNode as lone
-use Rattle.pair_core.specs.declared.faults.PairFault.TheVariants as faults
-use Rattle.pair_core.specs.declared.lone_node.LoneNode.{LoneNode}
+use Rattle.pair_node.specs.LoneNode as lone
+use Rattle.pair_node.specs.declared.faults.LoneFault.TheVariants as faults
+use Rattle.pair_node.specs.declared.lone_node.LoneNode.{LoneNode}
 use Rattle.pair_world.specs.Changes.{read_failed}
 use Rattle.pair_world.specs.Refusals as refusals
 use Rattle.pair_world.proofs.Items.{none_some}

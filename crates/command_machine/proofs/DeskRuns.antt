@@ -19,10 +19,10 @@ use Rattle.crash_disk.specs.DiskState.{DiskState}
 use Rattle.office_entry.specs.declared.entry.Entry.{Entry}
 use Rattle.office_state.specs.OfficeState.{office_limits}
 use Rattle.office_state.specs.declared.limits.Limits.{Limits}
-use Rattle.pair_core.specs.LoneAnswers.{fault_told}
-use Rattle.pair_core.specs.LoneNode as lone
-use Rattle.pair_core.specs.declared.faults.PairFault.{PairFault}
-use Rattle.pair_core.specs.declared.faults.PairFault.TheVariants as faults
+use Rattle.pair_node.specs.LoneAnswers.{fault_told}
+use Rattle.pair_node.specs.LoneNode as lone
+use Rattle.pair_node.specs.declared.faults.LoneFault.{LoneFault}
+use Rattle.pair_node.specs.declared.faults.LoneFault.TheVariants as faults
 use Rattle.pair_world.specs.World.{World}
 use Rattle.world_rows.specs.Rows.{Row}
 use Rattle.world_rows.specs.Told as world
@@ -100,7 +100,7 @@ module _ {D : Type 0} (state : D → DiskState) (old new : Desk D) (call : lone.
   -- an event that is refused, or not done for want of memory
   pub refused_in : (command : commands.Command) (row : Limits → Bool → World Entry → Row Told (World Entry))
       → ((t : Told) → lone.Does state old.office new.office row (Some t) → Leads state old new (λ m now. IsOneEvent m command (replies.Told t) now))
-      → (fault : PairFault) (r : Result Reply NoMemory)
+      → (fault : LoneFault) (r : Result Reply NoMemory)
       → MatchResult r (λ told. (told ≡ reply.Refused (refusal.Pair fault)) × (fault ≢ faults.NoMemory)) (λ e. fault ≡ faults.NoMemory)
       → lone.Does state old.office new.office row (fault_told fault) → Carries state old new command r
   refused_in command row event fault (Ok told) is does =

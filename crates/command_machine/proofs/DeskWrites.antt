@@ -31,10 +31,10 @@ use Rattle.office_state.specs.Due.{IsDue, due_of, opening_due, line_due, edit_du
 use Rattle.office_state.specs.History.{AreDue}
 use Rattle.office_state.specs.OfficeState.{State, office_limits}
 use Rattle.office_state.specs.declared.limits.Limits.{Limits}
-use Rattle.pair_core.specs.LoneAnswers.{fault_told}
-use Rattle.pair_core.specs.LoneNode as lone
-use Rattle.pair_core.specs.declared.faults.PairFault.{PairFault}
-use Rattle.pair_core.specs.declared.faults.PairFault.TheVariants as faults
+use Rattle.pair_node.specs.LoneAnswers.{fault_told}
+use Rattle.pair_node.specs.LoneNode as lone
+use Rattle.pair_node.specs.declared.faults.LoneFault.{LoneFault}
+use Rattle.pair_node.specs.declared.faults.LoneFault.TheVariants as faults
 use Rattle.pair_world.specs.Frames.{entries}
 use Rattle.pair_world.specs.Step.{Bounds}
 use Rattle.pair_world.specs.World.{World}
@@ -132,7 +132,7 @@ module _ {D : Type 0} (state : D → DiskState) (old new : Desk D) (call : lone.
       let one = written_leads (world.Written number 1) does m shown lawful job has_job next in
       (one.0, one.1, one.2, (number, 1, one.3))
 
-  pub write_refused : (fault : PairFault) (told : Reply) → told ≡ reply.Refused (refusal.Pair fault) → (fault ≡ faults.NoMemory → ⊥) → lone.Does state old.office new.office (row_in (lone.bounds_of old.office)) (fault_told fault)
+  pub write_refused : (fault : LoneFault) (told : Reply) → told ≡ reply.Refused (refusal.Pair fault) → (fault ≡ faults.NoMemory → ⊥) → lone.Does state old.office new.office (row_in (lone.bounds_of old.office)) (fault_told fault)
       → LeadsOn state old new e (IsWritten (Ok (Some (reply_of (table_of new) new.job told))))
   write_refused fault told is other does =
       let t = told_fault fault other in
@@ -140,7 +140,7 @@ module _ {D : Type 0} (state : D → DiskState) (old new : Desk D) (call : lone.
       let same : reply_of (table_of new) new.job told ≡ replies.Told t.told = ap (reply_of (table_of new) new.job) is ∙ t.reply in
       subst (λ (r : replies.Reply). LeadsOn state old new e (IsWritten (Ok (Some r)))) (sym same) (written_leads t.told done)
 
-  pub write_undone : (fault : PairFault) (r : Result (Option Reply) NoMemory) → IsErr r → fault ≡ faults.NoMemory → lone.Does state old.office new.office (row_in (lone.bounds_of old.office)) (fault_told fault)
+  pub write_undone : (fault : LoneFault) (r : Result (Option Reply) NoMemory) → IsErr r → fault ≡ faults.NoMemory → lone.Does state old.office new.office (row_in (lone.bounds_of old.office)) (fault_told fault)
       → LeadsOn state old new e (IsWritten (part_told new r))
   write_undone fault (Ok told) err is does m shown lawful job has_job next = absurd (cc err)
   write_undone fault (Err end) err is does m shown lawful job has_job next = left_undone state old new call kept fault (row_in (lone.bounds_of old.office)) is does m shown lawful

@@ -7,7 +7,7 @@ use Rattle.node_journal.specs.declared.frame.TheConstants.{MOST_FRAMES}
 use Rattle.office_entry.specs.declared.entry.Entry.{Entry}
 use Rattle.office_state.specs.History.{IsLegal}
 use Rattle.office_state.specs.OfficeState.{office_limits}
-use Rattle.pair_core.specs.LoneNode.{lone_duty}
+use Rattle.pair_node.specs.LoneNode.{lone_duty}
 use Rattle.pair_world.specs.Frames.{Frame, entries, epochs, epoch_at, Agree, Legal, In}
 use Rattle.pair_world.specs.Limits.{IsJournal}
 use Rattle.pair_world.specs.SoundWorld.{Part, Booked, Mirrored, Following, Agreeing, In_time, Current, Acknowledged, Known, Floored, Holds, Invariant, Named}

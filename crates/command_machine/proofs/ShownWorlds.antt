@@ -10,9 +10,9 @@ use Rattle.node_journal.proofs.Represented.{length-epochs}
 use Rattle.office_entry.specs.declared.entry.Entry.{Entry}
 use Rattle.office_state.specs.History.{state}
 use Rattle.office_state.specs.OfficeState.{State, office_limits}
-use Rattle.pair_core.specs.LoneNode.{Shows, node_of, is_up, count_of, len_of, table_of}
-use Rattle.pair_core.specs.NodeState.{learned_of}
-use Rattle.pair_core.specs.declared.lone_node.LoneNode.{LoneNode}
+use Rattle.pair_node.specs.LoneNode.{Shows, node_of, is_up, count_of, len_of, table_of}
+use Rattle.pair_node.specs.NodeState.{learned_of}
+use Rattle.pair_node.specs.declared.lone_node.LoneNode.{LoneNode}
 use Rattle.pair_world.specs.Frames.{Frame, entries}
 use Rattle.pair_world.specs.Refusals as refusals
 use Rattle.pair_world.specs.Refusals.{Down}

@@ -18,7 +18,7 @@ use Rattle.command_machine.specs.declared.reply.Reply.TheVariants as reply
 use Rattle.crash_disk.specs.DiskState.{DiskState}
 use Rattle.office_entry.specs.declared.entry.Entry.{Entry}
 use Rattle.office_state.specs.OfficeState.{State, office_limits}
-use Rattle.pair_core.specs.LoneNode as lone
+use Rattle.pair_node.specs.LoneNode as lone
 use Rattle.sequence_once.specs.declared.standing.Standing.TheVariants as standing
 use Rattle.world_rows.specs.Counts.{NeverFall}
 use Rattle.world_rows.specs.Rows.{Row, Gives}

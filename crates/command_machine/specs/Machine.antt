@@ -6,7 +6,7 @@ use Rattle.batch_desk.specs.declared.job.Job.{Job}
 use Rattle.node_journal.specs.declared.frame.TheConstants.{LAST_EPOCH, MOST_FRAMES}
 use Rattle.office_entry.specs.declared.entry.Entry.{Entry}
 use Rattle.office_state.specs.OfficeState.{State, office_limits}
-use Rattle.pair_core.specs.LoneNode.{lone_world}
+use Rattle.pair_node.specs.LoneNode.{lone_world}
 use Rattle.pair_world.specs.Frames.{Frame}
 use Rattle.pair_world.specs.Step.{Bounds}
 use Rattle.pair_world.specs.World.{World}

@@ -17,9 +17,9 @@ use Rattle.command_machine.specs.declared.reply.Reply.{Reply}
 use Rattle.command_machine.specs.declared.reply.Reply.TheVariants as reply
 use Rattle.crash_disk.specs.DiskState.{DiskState}
 use Rattle.office_state.specs.OfficeState.{State, office_limits}
-use Rattle.pair_core.specs.LoneAnswers.{fault_told}
-use Rattle.pair_core.specs.LoneNode as lone
-use Rattle.pair_core.specs.declared.faults.PairFault.{PairFault}
+use Rattle.pair_node.specs.LoneAnswers.{fault_told}
+use Rattle.pair_node.specs.LoneNode as lone
+use Rattle.pair_node.specs.declared.faults.LoneFault.{LoneFault}
 use Rattle.pair_world.specs.Refusals.{Ahead}
 use Rattle.sequence_once.specs.declared.standing.Standing.TheVariants as standing
 use Rattle.world_rows.specs.Counts.{Counts, NeverFall}
@@ -35,7 +35,7 @@ command_of Stop = commands.Stop
 command_of Start = commands.Start
 
 -- a refusal of the pair as a reply; for want of memory there is none
-abbrev pub fault_reply : PairFault → replies.Reply
+abbrev pub fault_reply : LoneFault → replies.Reply
 fault_reply fault = told_or_ready (fault_told fault)
   where
     told_or_ready : Option told.Told → replies.Reply

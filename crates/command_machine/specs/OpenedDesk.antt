@@ -10,11 +10,11 @@ use Rattle.command_machine.specs.declared.reply.Reply.{Reply}
 use Rattle.crash_disk.specs.DiskState.{DiskState}
 use Rattle.node_journal.specs.declared.frame.TheConstants.{MOST_FRAMES}
 use Rattle.office_state.specs.OfficeState.{office_limits}
-use Rattle.pair_core.specs.LoneNode as lone
-use Rattle.pair_core.specs.declared.faults.OpenEnd.{OpenEnd}
+use Rattle.pair_node.specs.LoneNode as lone
+use Rattle.pair_node.specs.declared.faults.LoneEnd.{LoneEnd}
 
 -- when each answer of an opening comes
-abbrev pub OpenAnswers : {D : Type 0} → (D → DiskState) → (a b duty : D) → Result (Desk D) (D × D × D × OpenEnd) → Type 0
+abbrev pub OpenAnswers : {D : Type 0} → (D → DiskState) → (a b duty : D) → Result (Desk D) (D × D × D × LoneEnd) → Type 0
 OpenAnswers state a b duty (Ok desk) = lone.IsOpened state a b duty office_limits MOST_FRAMES desk.office × (desk.job ≡ None)
 OpenAnswers state a b duty (Err back) = lone.IsRefused state a b duty MOST_FRAMES back
 

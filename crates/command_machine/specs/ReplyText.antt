@@ -1,7 +1,9 @@
 -- The text of each reply: a line, and of some a block behind it.
-use Rattle.std.specs.Prelude.{ℕ, List, [], ◌∷◌, ◌++◌, length, codes}
+use Rattle.std.specs.Prelude.{ℕ, List, [], ◌∷◌, ◌++◌, length, codes, Option, Some, None}
 use Rattle.std.specs.Fmt.{decimal}
 use Rattle.ali_base.specs.NodeNames.{node_text}
+use Rattle.ali_base.specs.declared.duty.Mode.{Mode}
+use Rattle.ali_base.specs.declared.duty.Mode.TheVariants as mode
 use Rattle.ali_base.specs.declared.names.DiskName.{DiskName}
 use Rattle.ali_base.specs.declared.names.DiskName.TheVariants as disk
 use Rattle.batch_desk.specs.JobReplies.{job_reply}
@@ -16,6 +18,15 @@ abbrev pub disk_text : DiskName → List ℕ
 disk_text disk.A = codes "a"
 disk_text disk.B = codes "b"
 disk_text disk.Duty = codes "duty"
+
+abbrev pub mode_text : Mode → List ℕ
+mode_text mode.Both = codes "BOTH"
+mode_text mode.Alone = codes "ALONE"
+
+-- a number, or the word for none
+abbrev pub number_or : List ℕ → Option ℕ → List ℕ
+number_or none None = none
+number_or none (Some n) = decimal n
 
 -- a word and a number; a word and two
 abbrev pub number_line : List ℕ → ℕ → List ℕ
@@ -57,6 +68,30 @@ told_line (told.Written number epoch) = numbers_line (codes "WRITTEN") number ep
 told_line (told.Booked number verdict) = numbers_line (codes "BOOKED") number verdict.code
 told_line (told.Stopped node) = line_of (codes "STOPPED" ∷ node_text node ∷ [])
 told_line (told.Started node len known) = line_of (codes "STARTED" ∷ node_text node ∷ decimal len ∷ decimal known ∷ [])
+told_line (told.Sent message) = number_line (codes "SENT") message
+told_line (told.Behind len number) = numbers_line (codes "BEHIND") len number
+told_line (told.Cut number) = number_line (codes "CUT") number
+told_line (told.Stored number made) = numbers_line (codes "STORED") number made
+told_line (told.Have number made) = numbers_line (codes "HAVE") number made
+told_line (told.Have_end number made) = line_of (codes "HAVE" ∷ codes "END" ∷ decimal number ∷ decimal made ∷ [])
+told_line (told.Acked number epoch) = numbers_line (codes "ACK") number epoch
+told_line (told.Acked_end number epoch) = line_of (codes "ACK" ∷ codes "END" ∷ decimal number ∷ decimal epoch ∷ [])
+told_line (told.On_duty duty) =
+    line_of (codes "DUTY" ∷ decimal duty.epoch ∷ node_text duty.holder ∷ mode_text duty.mode ∷ decimal duty.floor ∷ [])
+told_line (told.Started_duty duty) = line_of (codes "STARTED" ∷ codes "duty" ∷ decimal duty.epoch ∷ decimal duty.floor ∷ [])
+told_line (told.Told_status report) =
+    let duty = report.duty in
+    line_of
+    (codes "STATUS"
+    ∷ decimal duty.epoch
+    ∷ node_text duty.holder
+    ∷ mode_text duty.mode
+    ∷ decimal duty.floor
+    ∷ decimal report.count
+    ∷ number_or (codes "-") report.pending
+    ∷ number_or (codes "down") report.length_a
+    ∷ number_or (codes "down") report.length_b
+    ∷ [])
 told_line (told.Foreign d) = line_of (codes "FOREIGN" ∷ disk_text d ∷ [])
 told_line (told.Damaged d frame) = line_of (codes "DAMAGED" ∷ disk_text d ∷ decimal frame ∷ [])
 

@@ -11,8 +11,8 @@ ghost use Rattle.command_machine.specs.Commands as commands;
 ghost use Rattle.command_machine.specs.declared.refusal.Refusal.{Refusal as AnyRefusal};
 ghost use Rattle.command_machine.specs.declared.reply.Reply.{Reply as AnyReply};
 ghost use Rattle.office_entry.specs.Edits.{IsEdit};
-ghost use Rattle.pair_core.specs.LoneNode as lone;
-ghost use Rattle.pair_core.specs.declared.faults.PairFault.{PairFault as AnyFault};
+ghost use Rattle.pair_node.specs.LoneNode as lone;
+ghost use Rattle.pair_node.specs.declared.faults.LoneFault.{LoneFault as AnyFault};
 
 use crate::command::{Ask, Command};
 use crate::lines::{node_line, numbers_line, stopped_line};
@@ -28,7 +28,7 @@ use crash_disk::Disk;
 use node_journal::MOST_FRAMES;
 use office_entry::{Edit, Entry};
 use office_state::{DueFault, Limits, Office};
-use pair_core::{LoneNode, OpenEnd, PairFault};
+use pair_node::{LoneEnd, LoneFault, LoneNode};
 use retrieval::Form;
 use std::alloc::Global;
 use text_line::Line;
@@ -47,7 +47,7 @@ impl<D: Disk + Drop> Desk<D> {
     ghost use Rattle.command_machine.specs.DeskSteps.{Leads, LeadsOn, Readies, NextAnswers, IsWritten, IsBooked, GoesThrough, CompleteAnswers, IsFound, IsBatched, part_told, PartSwitches, BatchSwitches, Advances};
 
     /// Opens the office over its disks, with no job.
-    pub fn open(alloc: Global, a: D, b: D, duty: D) -> Result<Desk<D>, (D, D, D, OpenEnd)>
+    pub fn open(alloc: Global, a: D, b: D, duty: D) -> Result<Desk<D>, (D, D, D, LoneEnd)>
         ensures { OpenAnswers D.state a b duty result }
     {
         let office = LoneNode::open(alloc, a, b, duty, Limits::office(), MOST_FRAMES)?;
@@ -437,7 +437,7 @@ fn are_in_range(editor: Editor, serial: Serial, edit: &Edit)
 fn down() -> Reply
     ensures { result ≡ AnyReply.Refused (AnyRefusal.Pair (AnyFault.Down A)) }
 {
-    Reply::Refused(Refusal::Pair(PairFault::Down(DiskName::A)))
+    Reply::Refused(Refusal::Pair(LoneFault::Down(DiskName::A)))
 }
 
 // The reply to a job of which no entry is next, by why there is none.
@@ -452,13 +452,13 @@ fn none_next(office: &Office, job: &Job, fault: DueFault) -> Reply
 }
 
 // The reply where an event is refused, or its disk failed.
-fn refused(fault: PairFault) -> Result<Reply, NoMemory>
+fn refused(fault: LoneFault) -> Result<Reply, NoMemory>
     ensures { MatchResult result
         (λ told. (told ≡ AnyReply.Refused (AnyRefusal.Pair fault)) × (fault ≢ AnyFault.NoMemory))
         (λ e. fault ≡ AnyFault.NoMemory) }
 {
     match fault {
-        PairFault::NoMemory => Err(NoMemory),
+        LoneFault::NoMemory => Err(NoMemory),
         fault => Ok(Reply::Refused(Refusal::Pair(fault))),
     }
 }

@@ -8,7 +8,7 @@ use crate::lines::{
 };
 use batch_desk::{frame_line, refusal_line};
 use batch_frame::FrameFault;
-use pair_core::PairFault;
+use pair_node::LoneFault;
 use sequence_once::CycleFault;
 use text_line::Line;
 
@@ -16,7 +16,7 @@ use text_line::Line;
 #[derive(Clone, Copy, Debug, PartialEq, Eq)]
 pub enum Refusal {
     /// The node or its disk refuses.
-    Pair(PairFault),
+    Pair(LoneFault),
     /// Fewer entries are booked than were asked for.
     Ahead { since: u32, count: u32 },
     /// The first fault of a file's frame.
@@ -44,19 +44,19 @@ impl Refusal {
 
 // The line of a refusal of the node or its disk. That memory ran out is no reply, and of an entry
 // that may not be booked its job's standing is told.
-fn fault_line(fault: &PairFault) -> Line
+fn fault_line(fault: &LoneFault) -> Line
     ensures { result ≡ reply_line (fault_reply fault.now) }
 {
     match fault {
-        PairFault::Down(disk) => disk_line(b"DOWN", *disk),
-        PairFault::Up(disk) => disk_line(b"UP", *disk),
-        PairFault::InFlight(number) => in_flight_line(*number),
-        PairFault::NoFlight => words_line(b"NO", b"FLIGHT"),
-        PairFault::Full(limit) => number_line(b"FULL", *limit),
-        PairFault::Fault(disk) => disk_line(b"FAULT", *disk),
-        PairFault::Foreign(disk) => disk_line(b"FOREIGN", *disk),
-        PairFault::Damaged(disk, frame) => damaged_line(*disk, *frame),
-        PairFault::Short { node, have, need } => node_line(b"SHORT", *node, *have, *need),
-        PairFault::NotDue(_) | PairFault::NoMemory => Line::new(),
+        LoneFault::Down(disk) => disk_line(b"DOWN", *disk),
+        LoneFault::Up(disk) => disk_line(b"UP", *disk),
+        LoneFault::InFlight(number) => in_flight_line(*number),
+        LoneFault::NoFlight => words_line(b"NO", b"FLIGHT"),
+        LoneFault::Full(limit) => number_line(b"FULL", *limit),
+        LoneFault::Fault(disk) => disk_line(b"FAULT", *disk),
+        LoneFault::Foreign(disk) => disk_line(b"FOREIGN", *disk),
+        LoneFault::Damaged(disk, frame) => damaged_line(*disk, *frame),
+        LoneFault::Short { node, have, need } => node_line(b"SHORT", *node, *have, *need),
+        LoneFault::NotDue(_) | LoneFault::NoMemory => Line::new(),
     }
 }

@@ -31,7 +31,7 @@ pub struct Register<D> {
 
 impl<D: Disk + Drop> Register<D> {
     ghost use Rattle.duty_register.specs.OpenRegister.{OpenAnswers, ReopenAnswers, ChangeAnswers, Becomes, CrashesBetween, IsFixed};
-    ghost use Rattle.duty_register.specs.OpenRegister.{disk_of, duty_of, is_usable, taken, left_alone, paired};
+    ghost use Rattle.duty_register.specs.OpenRegister.{disk_of, duty_of, last_epoch_of, is_usable, taken, left_alone, paired};
 
     /// Opens the register, whose duties have at most the last epoch. It syncs the disk, changes no
     /// byte, and takes no memory.
@@ -90,6 +90,13 @@ impl<D: Disk + Drop> Register<D> {
         ensures { result ≡ duty_of self.now }
     {
         self.duty
+    }
+
+    /// The greatest epoch that a duty may have.
+    pub fn last_epoch(&self) -> u32
+        ensures { result ≡ last_epoch_of self.now }
+    {
+        self.log.limit() + 1
     }
 
     /// A node takes the duty, and is then alone. From `Ok` on, each crash leaves a disk that has it.

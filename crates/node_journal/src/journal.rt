@@ -1,5 +1,5 @@
 //! The journal.
-ghost use Rattle.std.specs.Prelude.{◌≡◌, ◌≤◌, ◌-◌, length, take, true, is_ok, slice_index, vec_capacity};
+ghost use Rattle.std.specs.Prelude.{◌≡◌, ◌≤◌, ◌-◌, length, take, true, is_ok, slice_index, vec_capacity, IfOk};
 ghost use Rattle.commit_log.specs.OpenLog.{body_len_of, limit_of as log_limit, count_of as log_count, is_usable as log_usable};
 ghost use Rattle.node_journal.specs.FrameBytes.{IsEpoch};
 ghost use Rattle.node_journal.specs.JournalState.{with_frame};
@@ -149,6 +149,7 @@ impl<D: Disk + Drop> Journal<D> {
         requires usable { is_usable self.old ≡ true }
         requires number { (1 ≤ k) × (k ≤ count_of self.old) }
         ensures answer { ReadAnswers D.state self.old self.new k result }
+        ensures epoch { IfOk result (λ entry. IsEpoch (slice_index (epochs_of self.old) (k - 1))) }
         ensures untouched { IsUntouched D.state self.old self.new }
     {
         let mut body = [0; 639];

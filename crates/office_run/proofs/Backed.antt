@@ -8,7 +8,7 @@ use Rattle.command_machine.specs.Machine.{office_bounds}
 use Rattle.office_run.specs.Disks.{OpensLawful}
 use Rattle.office_state.specs.OfficeState.{office_limits}
 use Rattle.office_state.specs.declared.limits.Limits.{Limits}
-use Rattle.pair_core.specs.LoneNode.{lone_duty, lone_world}
+use Rattle.pair_node.specs.LoneNode.{lone_duty, lone_world}
 use Rattle.pair_world.specs.Frames.{Frame, Begins, Rising, epoch_at}
 use Rattle.pair_world.specs.Limits.{IsEpoch, IsJournal}
 use Rattle.pair_world.specs.SoundWorld.{IsBooked, Named, Part, Holds, Booked, Mirrored, Following, Agreeing, In_time, Current, Acknowledged, Known, Floored, Invariant}

@@ -23,7 +23,7 @@ use Rattle.office_run.specs.declared.status.Status.{Status}
 use Rattle.office_run.specs.declared.status.Status.TheVariants.{Done, Usage, SourceFault, SinkFault, Script, TooLong, OpenFault, Foreign, Damaged, NotEmpty, NoMemory}
 use Rattle.office_run.proofs.Switched.{never-trans}
 use Rattle.office_state.specs.OfficeState.{office_limits}
-use Rattle.pair_core.specs.LoneNode.{IsOpened, disk_of}
+use Rattle.pair_node.specs.LoneNode.{IsOpened, disk_of}
 use Rattle.pair_world.specs.Frames.{Frame}
 use Rattle.world_rows.specs.Counts.{NeverFall}
 

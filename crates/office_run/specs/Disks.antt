@@ -6,7 +6,7 @@ use Rattle.crash_disk.specs.DiskState.{DiskState}
 use Rattle.node_journal.specs.JournalImage.{StandsFor}
 use Rattle.office_entry.specs.declared.entry.Entry.{Entry}
 use Rattle.office_state.specs.OfficeState.{office_limits}
-use Rattle.pair_core.specs.LoneNode.{AlwaysTell, lone_world}
+use Rattle.pair_node.specs.LoneNode.{AlwaysTell, lone_world}
 use Rattle.pair_world.specs.Frames.{Frame, Begins}
 use Rattle.pair_world.specs.World.{MayHold}
 use Rattle.world_rows.specs.Counts.{Counts, NeverFall}

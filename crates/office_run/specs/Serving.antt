@@ -8,9 +8,9 @@ use Rattle.office_run.specs.Disks.{Disks, disks_of, IsHonest, IsFirst}
 use Rattle.office_run.specs.Replied.{RepliedToAll, StoppedAt, RepliedInPart, RepliedToSome}
 use Rattle.office_run.specs.declared.status.Status.{Status}
 use Rattle.office_run.specs.declared.status.Status.TheVariants.{Done, SourceFault, SinkFault, Script, TooLong, OpenFault, Foreign, Damaged, NoMemory}
-use Rattle.pair_core.specs.LoneNode.{disk_of}
-use Rattle.pair_core.specs.declared.faults.OpenEnd.{OpenEnd}
-use Rattle.pair_core.specs.declared.faults.OpenEnd.TheVariants as ends
+use Rattle.pair_node.specs.LoneNode.{disk_of}
+use Rattle.pair_node.specs.declared.faults.LoneEnd.{LoneEnd}
+use Rattle.pair_node.specs.declared.faults.LoneEnd.TheVariants as ends
 
 -- the disks of a desk
 abbrev pub disks_at : {D : Type 0} → (D → DiskState) → Desk D → Disks
@@ -41,7 +41,7 @@ IsServed NoMemory = Unit {0}
 IsServed status = ⊥
 
 -- the status of a run whose disks are not opened
-abbrev pub end_status : OpenEnd → Status
+abbrev pub end_status : LoneEnd → Status
 end_status (ends.OpenFault disk) = OpenFault disk
 end_status (ends.Foreign disk) = Foreign disk
 end_status (ends.Damaged disk frame) = Damaged disk frame

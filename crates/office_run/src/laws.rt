@@ -6,7 +6,7 @@ ghost use Rattle.office_run.specs.ScriptGrammar.{BeginsWith, IsScript, StopsAfte
 ghost use Rattle.office_run.specs.ScriptReading.{command_at};
 ghost use Rattle.node_journal.specs.JournalState.{KeepsFrames};
 ghost use Rattle.office_run.specs.Disks.{IsHonest, disks_of};
-ghost use Rattle.pair_core.specs.LoneNode.{AlwaysTell};
+ghost use Rattle.pair_node.specs.LoneNode.{AlwaysTell};
 
 use crate::input::SCRIPT_LIMIT;
 use crash_disk::Disk;

@@ -18,7 +18,7 @@ use ali_base::{NoMemory, Sink, Source};
 use command_machine::Desk;
 use crash_disk::Disk;
 use node_journal::{an_image_is_read_one_way, frames_are_known_from_the_image};
-use pair_core::OpenEnd;
+use pair_node::LoneEnd;
 use std::alloc::Global;
 
 /// Does what the words say, and hands the disks a, b and duty back with the status.
@@ -109,14 +109,14 @@ fn run<S: Source, K: Sink, D: Disk + Drop>(
 }
 
 // The status where the disks are not opened.
-fn not_opened(end: OpenEnd) -> Status
+fn not_opened(end: LoneEnd) -> Status
     ensures { result ≡ end_status end }
 {
     match end {
-        OpenEnd::OpenFault(disk) => Status::OpenFault(disk),
-        OpenEnd::Foreign(disk) => Status::Foreign(disk),
-        OpenEnd::Damaged(disk, frame) => Status::Damaged(disk, frame),
-        OpenEnd::NoMemory => Status::NoMemory,
+        LoneEnd::OpenFault(disk) => Status::OpenFault(disk),
+        LoneEnd::Foreign(disk) => Status::Foreign(disk),
+        LoneEnd::Damaged(disk, frame) => Status::Damaged(disk, frame),
+        LoneEnd::NoMemory => Status::NoMemory,
     }
 }
 

@@ -1,9 +1,20 @@
-mod Learned
-mod Changed
-mod Decided
-mod LoneWorlds
-mod LoneShown
-mod LoneLearned
-mod LoneRows
-mod LoneWritten
-mod LoneStarted
+mod PairShown
+pub mod PairRows
+mod PairDuty
+pub mod PairReport
+mod PairHalts
+mod PairRegister
+mod PairTaken
+mod PairRegisterStarted
+mod PairStarted
+mod PairOpened
+mod PairLearned
+mod PairReady
+mod PairWritten
+mod PairBooked
+mod PairMessages
+mod PairShipped
+mod PairDelivered
+mod PairReceived
+mod PairPassed
+mod PairStored

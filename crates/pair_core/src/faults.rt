@@ -1,73 +1,68 @@
-//! Why a call of a node was refused.
-ghost use Rattle.std.specs.Prelude.{◌≡◌, ℕ};
-ghost use Rattle.pair_core.specs.LoneAnswers.{open_end, not_started};
-ghost use Rattle.pair_core.specs.StartedNode.{refusal};
-ghost use Rattle.pair_core.specs.declared.faults.StartFault.TheVariants.{Short};
+//! Why a call of the pair was refused.
 
 use ali_base::{DiskName, NodeName};
-use node_journal::JournalFault;
 use office_state::DueFault;
-
-/// Why a node was not started.
-#[derive(Clone, Copy, Debug, PartialEq, Eq)]
-pub enum StartFault {
-    /// The disk failed.
-    DiskFault,
-    /// The disk is no journal of this node.
-    Foreign,
-    /// The frame of this number is committed, and is not there as a whole, or is past the limit.
-    Damaged(u32),
-    /// The journal has fewer frames than are needed.
-    Short { have: u32, need: u32 },
-    /// Memory ran out.
-    NoMemory,
-}
-
-/// Why a node did not learn an entry. Those before it are learned.
-#[derive(Clone, Copy, Debug, PartialEq, Eq)]
-pub enum LearnFault {
-    /// The disk failed. The node is closed.
-    DiskFault,
-    /// The bytes on the disk are no longer those of this frame.
-    Changed(u32),
-    /// The entry of this frame may not be booked after those before it.
-    NotDue(u32),
-    /// Memory ran out.
-    NoMemory,
-}
-
-/// Why the node was not started, by why its journal was not opened.
-pub(crate) fn refusal(fault: JournalFault) -> StartFault
-    ensures { result ≡ refusal fault }
-{
-    match fault {
-        JournalFault::DiskFault => StartFault::DiskFault,
-        JournalFault::Foreign => StartFault::Foreign,
-        JournalFault::Damaged(frame) => StartFault::Damaged(frame),
-        JournalFault::NoMemory => StartFault::NoMemory,
-    }
-}
 
 /// Why an event of the pair is not done.
 #[derive(Clone, Copy, Debug, PartialEq, Eq)]
 pub enum PairFault {
-    /// The disk's node was stopped, or failed, and was not started since.
+    /// The disk's node or the register was stopped, or failed, and was not started since.
     Down(DiskName),
-    /// The disk's node is up.
+    /// The disk's node or the register is up.
     Up(DiskName),
+    /// The node is not the holder of the duty of this epoch.
+    OutOfDuty {
+        node: NodeName,
+        epoch: u32,
+        holder: NodeName,
+    },
     /// An entry is written and not booked.
     InFlight(u32),
     /// No entry is written that is not booked.
     NoFlight,
+    /// The other node did not acknowledge the entry of this number in this epoch.
+    Unstored {
+        number: u32,
+        epoch: u32,
+    },
+    /// The frame of this number is neither in the journal nor the one that would come next.
+    NoEntry {
+        number: u32,
+        len: u32,
+    },
+    /// So many messages are on their way, and the one of this number is not among them.
+    NoMessage {
+        number: u32,
+        sent: u32,
+    },
+    /// As many messages are on their way as may be.
+    MessagesFull(u32),
+    /// The holder of the duty of this epoch is alone.
+    NotPaired {
+        epoch: u32,
+        holder: NodeName,
+    },
+    /// The holder of the duty of this epoch is not alone.
+    Paired {
+        epoch: u32,
+        holder: NodeName,
+    },
+    /// The other node acknowledged this end of the history, 0 for none, and this one is due.
+    NotInStep {
+        ended: u32,
+        due: u32,
+    },
+    /// The epoch is the last one.
+    EpochEnd(u32),
     /// The entry may not be booked next.
     NotDue(DueFault),
     /// The journal has this many frames, its limit.
     Full(u32),
-    /// The disk failed. Its node is down.
+    /// The disk failed. Its node, or the register, is down.
     Fault(DiskName),
-    /// The disk is no journal of its node. The node stays down.
+    /// The disk does not begin as its format does. Its node, or the register, stays down.
     Foreign(DiskName),
-    /// The frame of this number is not its entry, or not one that may be booked. The node is down.
+    /// The frame of this number is not what was written there. Its node, or the register, is down.
     Damaged(DiskName, u32),
     /// The journal has fewer frames than the node needs. The node stays down.
     Short {
@@ -79,7 +74,7 @@ pub enum PairFault {
     NoMemory,
 }
 
-/// Why the office is not opened.
+/// Why the pair is not opened.
 #[derive(Clone, Copy, Debug, PartialEq, Eq)]
 pub enum OpenEnd {
     /// The disk failed.
@@ -88,37 +83,12 @@ pub enum OpenEnd {
     Foreign(DiskName),
     /// The frame of this number is committed, and is not there as a whole, or is past the limit.
     Damaged(DiskName, u32),
+    /// The node's journal has fewer frames than were booked when the present duty began.
+    Short {
+        node: NodeName,
+        have: u32,
+        floor: u32,
+    },
     /// Memory ran out.
     NoMemory,
-}
-
-/// Why the office is not opened, by why its node is not started. It needs no frame, so it has enough.
-pub(crate) fn open_end(fault: StartFault) -> OpenEnd
-    requires { (have need : ℕ) → fault ≡ Short have need → ⊥ }
-    ensures { result ≡ open_end fault }
-{
-    match fault {
-        StartFault::DiskFault => OpenEnd::OpenFault(DiskName::A),
-        StartFault::Foreign => OpenEnd::Foreign(DiskName::A),
-        StartFault::Damaged(frame) => OpenEnd::Damaged(DiskName::A, frame),
-        StartFault::NoMemory => OpenEnd::NoMemory,
-        StartFault::Short { .. } => unreachable!(),
-    }
-}
-
-/// Why the node is not started again.
-pub(crate) fn not_started(fault: StartFault) -> PairFault
-    ensures { result ≡ not_started fault }
-{
-    match fault {
-        StartFault::DiskFault => PairFault::Fault(DiskName::A),
-        StartFault::Foreign => PairFault::Foreign(DiskName::A),
-        StartFault::Damaged(frame) => PairFault::Damaged(DiskName::A, frame),
-        StartFault::Short { have, need } => PairFault::Short {
-            node: NodeName::A,
-            have,
-            need,
-        },
-        StartFault::NoMemory => PairFault::NoMemory,
-    }
 }

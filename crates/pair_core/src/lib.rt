@@ -1,20 +1,25 @@
-//! A node of the pair: its journal on a disk, and the table that it makes of the journal's entries.
+//! The pair of nodes, with the duty register and the messages between them.
 #![tactic(auto)]
 
+mod duty_change;
 mod faults;
-mod learning;
-mod lone_node;
-mod message;
-mod node;
-mod restarting;
-mod sending;
-mod storing;
+mod laws;
+mod node_calls;
+mod nodes;
+mod pair;
+mod pair_duty;
+mod pair_messages;
+mod pair_opening;
+mod pair_refusals;
+mod pair_status;
+mod pair_writes;
+mod readiness;
+mod sent;
+mod starting;
 
-pub use faults::{LearnFault, OpenEnd, PairFault, StartFault};
-pub use lone_node::{Booked, LoneNode, Started};
-pub use message::{Ack, Delivered, Message, What};
-pub use node::Node;
-pub use node_journal::{AppendFault, DiskFault, ReadFault};
-
-#[cfg(test)]
-mod tests;
+pub use faults::{OpenEnd, PairFault};
+pub use laws::{crashes_are_halts, formatted_worlds_are_lawful, ready_tables_have_the_history};
+pub use nodes::other;
+pub use pair::{Pair, PairStatus};
+pub use pair_node::{Ack, Booked, Delivered, Message, Node, Started, What};
+pub use pair_refusals::MOST_MESSAGES;

@@ -3,3 +3,4 @@ pub mod Legality
 pub mod Items
 pub mod Events
 pub mod Steps
+pub mod Deliveries

@@ -1,5 +1,5 @@
 -- Each step of the office's world is a step of the replicated world.
-use Rattle.std.proofs.Common.{ℕ, inl, List}
+use Rattle.std.proofs.Common.{ℕ, inl, inr, List}
 use Rattle.office_entry.specs.declared.entry.Entry.{Entry}
 use Rattle.office_state.specs.History.{IsLegal}
 use Rattle.office_state.specs.declared.limits.Limits.{Limits}
@@ -9,7 +9,7 @@ use Rattle.pair_world.specs.World.{World}
 use Rattle.pair_world.proofs.Limiting.{within_from, within_of, step_within}
 use Rattle.pair_world.proofs.SoundSteps.{step_is_sound, step_grows, history_is_legal}
 use Rattle.world_rows.specs.Histories.{due_after, IsLawful}
-use Rattle.world_rows.specs.Told.{Told, Refused, Not_due, Failed, Ready, Written, Booked, Stopped, Started, Foreign, Damaged}
+use Rattle.world_rows.specs.Told.{Told, Refused, Not_due, Failed, Ready, Written, Booked, Stopped, Started, Sent, Behind, Cut, Stored, Have, Have_end, Acked, Acked_end, On_duty, Started_duty, Told_status, Foreign, Damaged}
 use Rattle.world_rows.specs.WorldSteps.{OfficeEvent, IsStep}
 use Rattle.world_rows.proofs.Legality.{legal_entries}
 
@@ -33,6 +33,17 @@ module _ (limits : Limits) (bounds : Bounds) (w v : World Entry) (event : Office
   world_steps (Booked number verdict) step = (Done, step)
   world_steps (Stopped node) step = (Done, step)
   world_steps (Started node len known) step = (Done, step)
+  world_steps (Sent message) step = (Done, step)
+  world_steps (Behind len number) step = (Changeless, inr step)
+  world_steps (Cut number) step = (Done, step)
+  world_steps (Stored number made) step = (Done, step)
+  world_steps (Have number made) step = (Done, step)
+  world_steps (Have_end number made) step = (Done, step)
+  world_steps (Acked number epoch) step = (Done, step)
+  world_steps (Acked_end number epoch) step = (Done, step)
+  world_steps (On_duty duty) step = (Done, step)
+  world_steps (Started_duty duty) step = (Done, step)
+  world_steps (Told_status report) step = (Done, step)
 
   pub step_is_lawful : (told : Told) → IsLawful limits bounds w → IsStep limits bounds w event told v → IsLawful limits bounds v
   step_is_lawful told lawful step =

@@ -1,5 +1,5 @@
 //! Laws of rows, for whoever reads the definitions.
-ghost use Rattle.std.specs.Prelude.{◌≡◌, ◌↔◌, ℕ, List, Bool};
+ghost use Rattle.std.specs.Prelude.{◌≡◌, ◌<◌, ◌↔◌, ℕ, List, Bool};
 ghost use Rattle.ali_base.specs.declared.names.DiskName.{DiskName};
 ghost use Rattle.ali_base.specs.declared.names.NodeName.{NodeName};
 ghost use Rattle.office_entry.specs.Entries.{IsEntry};
@@ -7,13 +7,13 @@ ghost use Rattle.office_entry.specs.declared.entry.Entry.{Entry};
 ghost use Rattle.office_state.specs.declared.limits.Limits.{Limits};
 ghost use Rattle.office_state.specs.History.{IsLegal};
 ghost use Rattle.pair_world.specs.Frames.{Frame, Begins, Legal, entries};
-ghost use Rattle.pair_world.specs.Step.{Bounds, Write, Book, Stop, Start, Ask};
+ghost use Rattle.pair_world.specs.Step.{Bounds, Write, Ship, Deliver, Take, Go_alone, Pair_up, Book, Stop, Start, Start_duty, Ask};
 ghost use Rattle.pair_world.specs.World.{World};
 ghost use Rattle.world_rows.specs.Counts.{Counts, NoneRose};
 ghost use Rattle.world_rows.specs.Histories.{due_after, IsLawful};
 ghost use Rattle.world_rows.specs.Rows.{Row, Gives};
 ghost use Rattle.world_rows.specs.Told.{Told, Failed};
-ghost use Rattle.world_rows.specs.WorldRows.{ready_row, write_row, book_row, stop_row, start_row};
+ghost use Rattle.world_rows.specs.WorldRows.{ready_row, write_row, book_row, stop_row, start_row, ship_row, deliver_row, take_row, alone_row, pair_row, start_duty_row};
 ghost use Rattle.world_rows.specs.WorldSteps.{OfficeEvent, IsStep};
 
 /// What a row gives is a step of the world: the event is done, or its device failed, or nothing
@@ -39,6 +39,31 @@ pub fn rows_are_steps()
         → IsLawful limits bounds w
         → Gives before now Failed w (start_row limits w node lasted) told v
         → IsStep limits bounds w (Start node) told v }
+    ensures ship { (limits : Limits) (bounds : Bounds) (before now : Counts)
+        (w v : World Entry) (node : NodeName) (k : ℕ) (told : Told)
+        → 0 < k → Gives before now Failed w (ship_row limits w node k) told v
+        → IsStep limits bounds w (Ship k) told v }
+    ensures deliver { (limits : Limits) (bounds : Bounds) (before now : Counts)
+        (w v : World Entry) (i : ℕ) (told : Told)
+        → Gives before now Failed w (deliver_row limits w i) told v
+        → IsStep limits bounds w (Deliver i) told v }
+    ensures take { (limits : Limits) (bounds : Bounds) (before now : Counts)
+        (w v : World Entry) (node : NodeName) (told : Told)
+        → Gives before now Failed w (take_row limits w bounds node) told v
+        → IsStep limits bounds w (Take node) told v }
+    ensures alone { (limits : Limits) (bounds : Bounds) (before now : Counts)
+        (w v : World Entry) (told : Told)
+        → Gives before now Failed w (alone_row limits w bounds) told v
+        → IsStep limits bounds w Go_alone told v }
+    ensures pair { (limits : Limits) (bounds : Bounds) (before now : Counts)
+        (w v : World Entry) (told : Told)
+        → IsLawful limits bounds w
+        → Gives before now Failed w (pair_row limits w bounds) told v
+        → IsStep limits bounds w Pair_up told v }
+    ensures start_duty { (limits : Limits) (bounds : Bounds) (before now : Counts)
+        (w v : World Entry) (lasted : Bool) (told : Told)
+        → Gives before now Failed w (start_duty_row limits w lasted) told v
+        → IsStep limits bounds w Start_duty told v }
     ensures ready { (limits : Limits) (bounds : Bounds) (before now : Counts)
         (w v : World Entry) (node : NodeName) (tn : List ℕ) (since : ℕ) (told : Told)
         → Gives before now Failed w (ready_row limits w node) told v

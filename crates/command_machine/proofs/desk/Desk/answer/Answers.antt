@@ -2,7 +2,7 @@ use Rattle.std.proofs.Common.{◌≡◌, ◌≤◌, true, false, None, arith}
 use Rattle.std.proofs.lemmas.Grind.{common_steps}
 use Rattle.command_machine.specs.Commands as commands
 use Rattle.command_machine.specs.MadeReply.{is_up, table_of}
-use Rattle.pair_core.specs.LoneNode as lone
+use Rattle.pair_node.specs.LoneNode as lone
 use Rattle.command_machine.proofs.DeskReads.{left_unready, ask_down, ask_ahead, ask_stops, ask_answered, form_made}
 use Rattle.command_machine.proofs.desk.Desk.answer.Goals as goal
 

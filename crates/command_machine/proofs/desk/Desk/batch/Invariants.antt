@@ -2,7 +2,7 @@ use Rattle.std.proofs.Common.{◌≡◌, true, Ok, None, ◌-◌, ◌^◌}
 use Rattle.command_machine.specs.DeskSteps.{Leads, IsBatched}
 use Rattle.command_machine.specs.MadeReply.{is_up}
 use Rattle.command_machine.specs.OpenedDesk.{Keeps}
-use Rattle.pair_core.specs.LoneNode as lone
+use Rattle.pair_node.specs.LoneNode as lone
 use Rattle.command_machine.proofs.desk.Desk.batch.Given as goal
 
 -- the command is as at its beginning, and the node is up

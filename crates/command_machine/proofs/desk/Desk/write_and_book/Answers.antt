@@ -1,6 +1,6 @@
 use Rattle.std.proofs.Common.{◌≡◌, ◌<◌, ◌≤◌, None, arith}
 use Rattle.std.proofs.lemmas.Grind.{common_steps}
-use Rattle.pair_core.specs.LoneNode as lone
+use Rattle.pair_node.specs.LoneNode as lone
 use Rattle.command_machine.proofs.DeskParts.{through_booking, through_both, through_ending, through_none}
 use Rattle.command_machine.proofs.desk.Desk.write_and_book.Goals as goal
 

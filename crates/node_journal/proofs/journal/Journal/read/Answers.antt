@@ -5,7 +5,7 @@ use Rattle.commit_log.specs.OpenLog as log
 use Rattle.commit_log.specs.declared.log.ReadFault.{ReadFault}
 use Rattle.office_entry.specs.declared.entry.Entry.{Entry}
 use Rattle.pair_world.specs.Frames.{Frame}
-use Rattle.node_journal.specs.FrameBytes.{IsBodyOf, is_body}
+use Rattle.node_journal.specs.FrameBytes.{IsEpoch, IsBodyOf, is_body}
 use Rattle.node_journal.specs.OpenJournal.{frame_at, epochs_of}
 use Rattle.node_journal.proofs.ReadFrames.{cut_off, another, this}
 use Rattle.node_journal.proofs.journal.Journal.read.Goals as goal
@@ -40,3 +40,6 @@ returns-in-None-clause-answer g c =
     let other = another g.D.Disk.state c.args.self.now c.requires.usable c.args.k c.requires.number.0 c.read.new.body None (sym c.frame_of.ensures.exact ∙ ap (option_map _) c.in-None.is) (omega (arith, c.ranges.k)) answer.0 answer.1
     (λ frame epoch same. absurd cc) in
     (refl, other.0, other.1)
+
+pub returns-else-epoch-get-clause-epoch : goal.returns-else-epoch-get-clause-epoch
+returns-else-epoch-get-clause-epoch g c = subst IsEpoch (c.if-epoch-get.false ∙ c.get.ensures) c.in-Some.ensures.found.lawful.0

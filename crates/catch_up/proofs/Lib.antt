@@ -1,0 +1,4 @@
+pub mod Numbers
+pub mod PassedNumbers
+pub mod Courses
+pub mod OnWay

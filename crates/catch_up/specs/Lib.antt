@@ -1,0 +1,3 @@
+pub mod CatchingUp
+pub mod CatchUpAnswers
+pub mod Plan
