@@ -184,8 +184,8 @@ pub unread_causes : {D : Type 0} (state : D → DiskState) (old new : Pair D) (n
 unread_causes state old new n f causes course = (causes, course)
 
 module _ {D : Type 0} (state : D → DiskState) (old mid new : Pair D) (n : NodeName) (up : is_up old ≡ true) (pending : count_of old < len_of old n) (learned : IsLearned state old mid n) (ready : ReadyRest state old mid n (Ok tt)) where
-  pub booked_causes : (v : Verdict) → NextAnswers state (node_of mid n) (node_of new n) (Ok v) → HasOneMore mid new n → BookRest state old new n (Ok (record { number = count_of new; code = v.code; detail = v.detail }))
-  booked_causes v answer more =
+  pub booked_causes : (v : Verdict) → NextAnswers state (node_of mid n) (node_of new n) (Ok v) → Learns state (node_of mid n) (node_of new n) → HasOneMore mid new n → BookRest state old new n (Ok (record { number = count_of new; code = v.code; detail = v.detail }))
+  booked_causes v answer learns more =
       let number : count_of new ≡ count_of old + 1 = omega (arith, more.count, learned.1.count) in
       let at : node.learned_of (node_of mid n) + 1 ≡ count_of new = omega (arith, number, ready.3, learned.1.count) in (
         (ready.0.0, answer.1),
@@ -194,7 +194,7 @@ module _ {D : Type 0} (state : D → DiskState) (old mid new : Pair D) (n : Node
         number,
         more.duty ∙ learned.1.duty,
         ap (λ (f : Option Duty). is_none f) (more.failed ∙ learned.1.failed) ∙ up,
-        (node_of mid n, ready.3 ∙ learned.1.count, subst (λ (k : ℕ). IsVerdictAt state (node_of mid n) k v) at answer.2),
+        (node_of mid n, learned.0, learns, ready.3 ∙ learned.1.count, subst (λ (k : ℕ). IsVerdictAt state (node_of mid n) k v) at answer.2),
       )
 
   pub booked_call : ((disk : D) → IsSound (state disk)) → Learns state (node_of mid n) (node_of new n) → HasOneMore mid new n → IsCall state old new

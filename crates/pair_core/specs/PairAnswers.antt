@@ -20,7 +20,7 @@ use Rattle.pair_world.specs.World.{other}
 use Rattle.world_rows.specs.Counts.{RoseAt}
 use Rattle.world_rows.specs.Told as tells
 use Rattle.world_rows.specs.Told.{Told, Refused, Not_due, Foreign, Damaged, Ready, Written, Booked, Stopped, Started, Behind, Cut, Stored, Have, Have_end, Acked, Acked_end, Told_status}
-use Rattle.pair_node.specs.LearnedEntries.{IsGone, IsVerdictAt}
+use Rattle.pair_node.specs.LearnedEntries.{IsGone, IsVerdictAt, Learns}
 use Rattle.pair_node.specs.LoneAnswers.{IsBadFrame}
 use Rattle.pair_node.specs.NodeState.{journal_of, learned_of}
 use Rattle.pair_core.specs.Pair.{node_of, is_node_up, is_up, len_of, count_of, table_of, duty_of, bounds_of, counts_of, disk_at, sent_of, acked_of, ended_of}
@@ -218,7 +218,8 @@ module _ {D : Type 0} (state : D → DiskState) (old new : Pair D) where
   BookRest n (Ok booked) =
       StaysUp n × (count_of old < len_of old n) × (booked.number ≡ count_of old + 1) × (count_of new ≡ count_of old + 1)
       × (duty_of new ≡ duty_of old) × (is_up new ≡ true)
-      × ((ready : Node D) × (learned_of ready ≡ count_of old) × IsVerdictAt state ready booked.number (record { code = booked.code; detail = booked.detail }))
+      × ((ready : Node D) × Learns state (node_of old n) ready × Learns state ready (node_of new n)
+      × (learned_of ready ≡ count_of old) × IsVerdictAt state ready booked.number (record { code = booked.code; detail = booked.detail }))
   BookRest n (Err refusal) = LearningCauses n refusal × KeepsCourse
 
   abbrev pub BookCauses : Result BookedEntry PairFault → Type 0

@@ -54,7 +54,7 @@ returns-in-Ok-clause-causes g c =
     let new = c.learn_next.new.self in
     let booked : BookedEntry = record { number = count_of new; code = c.in-Ok.verdict.code; detail = c.in-Ok.verdict.detail } in
     where_passed (rows.book_refusal p) p new (Ok booked) (BookRest g.D.Disk.state p new (rows.holder p) (Ok booked)) (sym c.book_refusal.ensures ∙ c.in_default.is)
-    (booked_causes g.D.Disk.state p c.learn.new.self new (rows.holder p) passed.register_up passed.pending r.learned r.causes c.in-Ok.verdict next.answer next.counts)
+    (booked_causes g.D.Disk.state p c.learn.new.self new (rows.holder p) passed.register_up passed.pending r.learned r.causes c.in-Ok.verdict next.answer next.learns next.counts)
 
 pub returns-in-Ok-clause-call : goal.returns-in-Ok-clause-call
 returns-in-Ok-clause-call g c =
