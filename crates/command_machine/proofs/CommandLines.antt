@@ -10,13 +10,16 @@ use Rattle.ali_base.proofs.Steps.{bind_ok, some_is}
 use Rattle.text_line.specs.WordReading.{number_of, split_once}
 use Rattle.text_line.proofs.NumberTexts.{number_of-decimal, decimal-number_of}
 use Rattle.text_line.proofs.Splits.{Clear, Clear-append, split_again, split_none, split_is, decimal_clear}
+use Rattle.audit_reports.specs.Reports.{IsReport}
+use Rattle.audit_reports.specs.declared.report.Report.{Report as OfficeReport}
 use Rattle.command_machine.specs.Commands.{IsAsk}
 use Rattle.command_machine.specs.declared.command.TheConstants.{FILE_LIMIT}
-use Rattle.command_machine.specs.CommandText.{ask_text, file_text, IsEditLine, SpellsLine}
+use Rattle.command_machine.specs.CommandText.{ask_text, report_command_text, file_text, IsEditLine, SpellsLine}
 use Rattle.command_machine.specs.LineReading.{file_of, of_node, word_alone, by_word, line_in, line_of}
 use Rattle.command_machine.specs.declared.command_line.CommandLine.{CommandLine}
-use Rattle.command_machine.specs.declared.command_line.CommandLine.TheVariants.{Ask, File, Edit, Next, Batch, Stop, Start}
+use Rattle.command_machine.specs.declared.command_line.CommandLine.TheVariants.{Ask, Report, File, Edit, Next, Batch, Stop, Start}
 use Rattle.command_machine.proofs.AskTexts.{ask_words, ask_of-text, ask-ask_of, tn_clear, tn_of-number}
+use Rattle.command_machine.proofs.ReportTexts.{command_words, report_of-text, text-report_of, words_clear}
 use Rattle.command_machine.proofs.EditTexts.{edit_words, edit_of-text, text-edit_of, text_clear}
 
 -- no byte of a line is a line end
@@ -27,6 +30,9 @@ ask_clear p tn since h =
     let last = Clear-append 10 tn (32 ∷ decimal since) (tn_clear 10 refl tn (tn_of-number tn h.number)) (refl, number) in
     let words = Clear-append 10 (decimal p) (32 ∷ (tn ++ 32 ∷ decimal since)) (decimal_clear 10 refl p (omega (arith, h.high))) (refl, last) in
     (refl, (refl, (refl, (refl, (refl, (refl, words))))))
+
+report_clear : (report : OfficeReport) → IsReport report → Clear 10 (report_command_text report)
+report_clear report h = (refl, (refl, (refl, (refl, (refl, (refl, (refl, (refl, (refl, words_clear report h)))))))))
 
 file_clear : (len : ℕ) → len ≤ FILE_LIMIT → Clear 10 (file_text len)
 file_clear len small = (refl, (refl, (refl, (refl, (refl, decimal_clear 10 refl len (omega arith))))))
@@ -39,6 +45,7 @@ edit_clear text editor serial words is clear =
 
 pub line_clear : (text : List ℕ) (line : CommandLine) → SpellsLine text line → Clear 10 text
 line_clear text (Ask ask) is = subst (Clear 10) (sym is.1) (ask_clear ask.position ask.tn ask.since is.0)
+line_clear text (Report report) is = subst (Clear 10) (sym is.1) (report_clear report is.0)
 line_clear text (File len) is = subst (Clear 10) (sym is.1) (file_clear len is.0)
 line_clear text (Edit editor serial edit) is = edit_clear text editor serial is.0 is.2 (text_clear is.0 edit is.1)
 line_clear text Next is = subst (Clear 10) (sym is) (refl, (refl, (refl, (refl, tt))))
@@ -65,6 +72,8 @@ file_of-text len small =
 -- what is spelled is read
 pub line_of-spelled : (text : List ℕ) (line : CommandLine) → SpellsLine text line → line_of text ≡ Some line
 line_of-spelled text (Ask ask) is = by_parts text (codes "ASK") (ask_words ask.position ask.tn ask.since) (refl, (refl, (refl, tt))) is.1 ∙ ask_of-text ask is.0
+line_of-spelled text (Report report) is =
+    by_parts text (codes "REPORT") (command_words report) (refl, (refl, (refl, (refl, (refl, (refl, tt)))))) is.1 ∙ report_of-text report is.0
 line_of-spelled text (File len) is = by_parts text (codes "FILE") (decimal len) (refl, (refl, (refl, (refl, tt)))) is.1 ∙ file_of-text len is.0
 line_of-spelled text (Edit editor serial edit) is =
     by_parts text (codes "EDIT") (edit_words editor serial is.0) (refl, (refl, (refl, (refl, tt)))) is.2.line_is ∙ edit_of-text editor serial edit is.0 is.2.editor_is is.2.serial_is is.1
@@ -105,24 +114,30 @@ spelled-by_word text word words line is h = elim (this_word word (codes "ASK") _
       let found = ask-ask_of words line ask.1 in
       let spelled = is ∙ ap (λ w. w ++ 32 ∷ words) ask.0 ∙ ap (λ w. codes "ASK" ++ 32 ∷ w) found.words_are in
       subst (SpellsLine text) (sym found.line_is) (found.lawful, spelled))
-  | inr no_ask ↦ (elim (this_word word (codes "FILE") _ _ _ no_ask) [
-    | inl file ↦ (
-        let found = file-file_of words line file.1 in
-        let spelled = is ∙ ap (λ w. w ++ 32 ∷ words) file.0 ∙ ap (λ w. codes "FILE" ++ 32 ∷ w) found.3 in
-        subst (SpellsLine text) (sym found.2) (found.1, spelled))
-    | inr no_file ↦ (elim (this_word word (codes "EDIT") _ _ _ no_file) [
-      | inl edit ↦ (
-          let found = text-edit_of words line edit.1 in
-          let spelled = is ∙ ap (λ w. w ++ 32 ∷ words) edit.0 ∙ ap (λ w. codes "EDIT" ++ 32 ∷ w) found.words_are in
-          subst (SpellsLine text) (sym found.line_is) (found.text, found.text_is, record { editor_is = found.editor_is; serial_is = found.serial_is; line_is = spelled }))
-      | inr no_edit ↦ (elim (this_word word (codes "STOP") _ _ _ no_edit) [
-        | inl stop ↦ (
-            let found = spelled-node text word words Stop line is stop.1 in
-            subst (SpellsLine text) found.0 (found.1 ∙ ap (λ w. w ++ 32 ∷ codes "a") stop.0))
-        | inr no_stop ↦ (
-            let test = when_some (bytes_eq word (codes "START")) (of_node words Start) line no_stop in
-            let found = spelled-node text word words Start line is test.1 in
-            subst (SpellsLine text) found.0 (found.1 ∙ ap (λ w. w ++ 32 ∷ codes "a") ((bytes_eq-Decides word (codes "START")).0 test.0)))
+  | inr no_ask ↦ (elim (this_word word (codes "REPORT") _ _ _ no_ask) [
+    | inl report ↦ (
+        let found = text-report_of words line report.1 in
+        let spelled = is ∙ ap (λ w. w ++ 32 ∷ words) report.0 ∙ ap (λ w. codes "REPORT" ++ 32 ∷ w) found.words_are in
+        subst (SpellsLine text) (sym found.line_is) (found.lawful, spelled))
+    | inr no_report ↦ (elim (this_word word (codes "FILE") _ _ _ no_report) [
+      | inl file ↦ (
+          let found = file-file_of words line file.1 in
+          let spelled = is ∙ ap (λ w. w ++ 32 ∷ words) file.0 ∙ ap (λ w. codes "FILE" ++ 32 ∷ w) found.3 in
+          subst (SpellsLine text) (sym found.2) (found.1, spelled))
+      | inr no_file ↦ (elim (this_word word (codes "EDIT") _ _ _ no_file) [
+        | inl edit ↦ (
+            let found = text-edit_of words line edit.1 in
+            let spelled = is ∙ ap (λ w. w ++ 32 ∷ words) edit.0 ∙ ap (λ w. codes "EDIT" ++ 32 ∷ w) found.words_are in
+            subst (SpellsLine text) (sym found.line_is) (found.text, found.text_is, record { editor_is = found.editor_is; serial_is = found.serial_is; line_is = spelled }))
+        | inr no_edit ↦ (elim (this_word word (codes "STOP") _ _ _ no_edit) [
+          | inl stop ↦ (
+              let found = spelled-node text word words Stop line is stop.1 in
+              subst (SpellsLine text) found.0 (found.1 ∙ ap (λ w. w ++ 32 ∷ codes "a") stop.0))
+          | inr no_stop ↦ (
+              let test = when_some (bytes_eq word (codes "START")) (of_node words Start) line no_stop in
+              let found = spelled-node text word words Start line is test.1 in
+              subst (SpellsLine text) found.0 (found.1 ∙ ap (λ w. w ++ 32 ∷ codes "a") ((bytes_eq-Decides word (codes "START")).0 test.0)))
+        ])
       ])
     ])
   ])

@@ -108,6 +108,7 @@ ends_batch m (replies.Told world.Ready) last = absurd last
 ends_batch m (replies.Told (world.Written n e)) last = absurd last
 ends_batch m (replies.Told (world.Booked n v)) last = absurd last
 ends_batch m (replies.Answer count form) last = record { found_tells = refl; found_ends = refl; booked_tells = refl; booked_ends = refl }
+ends_batch m (replies.Reported count text) last = record { found_tells = refl; found_ends = refl; booked_tells = refl; booked_ends = refl }
 ends_batch m (replies.Framing fault) last = record { found_tells = refl; found_ends = refl; booked_tells = refl; booked_ends = refl }
 ends_batch m (replies.Standing fault) last = record { found_tells = refl; found_ends = refl; booked_tells = refl; booked_ends = refl }
 ends_batch m replies.No_job last = record { found_tells = refl; found_ends = refl; booked_tells = refl; booked_ends = refl }
@@ -161,6 +162,7 @@ keeps_twice state old mid new first then = record {
 pub not_booked : {D : Type 0} (old new : Desk D) (told : Reply) → ((number code detail : ℕ) → told ≡ reply.Booked number code detail → ⊥) → Advances old new told → IsLast (reply_of (table_of new) new.job told)
 not_booked old new (reply.Refused why) other is = is
 not_booked old new (reply.Answer count form) other is = is
+not_booked old new (reply.Reported count text) other is = is
 not_booked old new (reply.Read read) other is = is
 not_booked old new (reply.Complete done) other is = is
 not_booked old new (reply.Booked number code detail) other is = absurd (other number code detail refl)

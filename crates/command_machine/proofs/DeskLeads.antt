@@ -1,23 +1,20 @@
 -- What the calls of the office of one node are to the machine.
-use Rattle.std.proofs.Common.{◌≡◌, ◌⊎◌, inl, inr, ℕ, suc, zero, Bool, true, false, List, [], ◌∷◌, ◌++◌, refl, ap, sym, ◌∙◌, subst, arith, Option, Some, None, Result, Ok, Err, MatchResult, ◌≢◌}
+use Rattle.std.proofs.Common.{◌≡◌, inl, inr, Bool, true, [], refl, ap, sym, ◌∙◌, subst, arith, Option, Some, None, Result, Ok, Err, MatchResult, ◌≢◌}
 use Rattle.std.specs.Result.{IsErr}
 use Rattle.ali_base.specs.declared.no_memory.NoMemory.{NoMemory}
 use Rattle.std.specs.Option.{option_map}
 use Rattle.std.proofs.lemmas.Grind.{common_steps}
-use Rattle.ali_base.specs.declared.names.DiskName.{DiskName}
 use Rattle.ali_base.specs.declared.names.DiskName.TheVariants as disk
-use Rattle.ali_base.specs.declared.names.NodeName.{NodeName}
 use Rattle.ali_base.specs.declared.names.NodeName.TheVariants.{A}
-use Rattle.command_machine.specs.CommandRows.{event_row}
-use Rattle.command_machine.specs.DeskSteps.{Leads, Stays, IsGiven, Readies, IsBooked, IsFound, IsWritten, IsLast, part_told}
-use Rattle.command_machine.specs.Machine.{Machine, Moment, IsLawful, with_world, office_bounds}
+use Rattle.command_machine.specs.DeskSteps.{Leads, Stays, Readies, IsBooked, IsFound, IsWritten, IsLast, part_told}
+use Rattle.command_machine.specs.Machine.{Moment, IsLawful, with_world, office_bounds}
 use Rattle.command_machine.specs.MadeReply.{ShowsMachine, counts_of, table_of, fault_reply, reply_of, told_by}
 use Rattle.command_machine.specs.Replies as replies
 use Rattle.command_machine.specs.declared.desk.Desk.{Desk}
 use Rattle.command_machine.specs.declared.refusal.Refusal.TheVariants as refusal
 use Rattle.command_machine.specs.declared.reply.Reply.{Reply}
 use Rattle.command_machine.specs.declared.reply.Reply.TheVariants as reply
-use Rattle.command_machine.proofs.DeskMoves.{never_fall_twice, ready_stops}
+use Rattle.command_machine.proofs.DeskMoves.{ready_stops}
 use Rattle.command_machine.proofs.ShownWorlds.{holder_is, state_shown}
 use Rattle.crash_disk.specs.DiskState.{DiskState}
 use Rattle.office_entry.specs.Entries.{IsEntry}
@@ -29,7 +26,6 @@ use Rattle.pair_node.specs.LoneNode as lone
 use Rattle.pair_node.specs.NodeState.{learned_of}
 use Rattle.pair_node.specs.declared.faults.LoneFault.{LoneFault}
 use Rattle.pair_node.specs.declared.faults.LoneFault.TheVariants as faults
-use Rattle.pair_world.specs.Changes.{read_failed}
 use Rattle.pair_world.specs.Refusals as refusals
 use Rattle.pair_world.specs.Refusals.{Refusal}
 use Rattle.pair_world.specs.Step.{Bounds, Ask, Book, Stop, Start, Write}

@@ -1,9 +1,8 @@
 -- What a desk does as events of the machine.
-use Rattle.std.proofs.Common.{◌≡◌, ◌⊎◌, inl, inr, ℕ, suc, Bool, true, false, not, List, length, refl, ap, sym, ◌∙◌, subst, arith, Option, Some, None, Result, Ok, Err}
+use Rattle.std.proofs.Common.{◌≡◌, inl, inr, suc, not, length, refl, ap, sym, ◌∙◌, subst, arith, Option, Some, None, Result, Ok}
 use Rattle.std.specs.Option.{option_map}
 use Rattle.ali_base.specs.Steps.{when}
 use Rattle.ali_base.specs.declared.names.DiskName.{DiskName}
-use Rattle.ali_base.specs.declared.names.DiskName.TheVariants as disk
 use Rattle.ali_base.specs.declared.names.NodeName.{NodeName}
 use Rattle.ali_base.specs.declared.names.NodeName.TheVariants.{A}
 use Rattle.batch_desk.specs.Jobs.{job_standing, next_of}
@@ -14,7 +13,7 @@ use Rattle.command_machine.specs.Machine.{Machine, Moment, holder_of, with_world
 use Rattle.command_machine.specs.Replies as replies
 use Rattle.office_entry.specs.declared.entry.Entry.{Entry}
 use Rattle.office_state.specs.Due.{due_of}
-use Rattle.office_state.specs.OfficeState.{State, office_limits}
+use Rattle.office_state.specs.OfficeState.{office_limits}
 use Rattle.office_state.specs.declared.due_fault.DueFault.{DueFault}
 use Rattle.pair_world.specs.Changes.{journal_written, written, read_failed, write_failed}
 use Rattle.pair_world.specs.Refusals as refusals
@@ -22,7 +21,7 @@ use Rattle.pair_world.specs.Refusals.{Refusal, disk_of}
 use Rattle.pair_world.specs.World.{World, holder_journal, is_node}
 use Rattle.pair_world.proofs.Items.{some_is, none_some}
 use Rattle.pair_world.proofs.RowTests.{in_duty_passes}
-use Rattle.world_rows.specs.Counts.{Counts, NeverFall, RoseAt, count_at}
+use Rattle.world_rows.specs.Counts.{Counts, NeverFall, RoseAt}
 use Rattle.world_rows.specs.Rows.{Row, Unless, MayFail, Always, Success, Gives}
 use Rattle.world_rows.specs.Told as world
 use Rattle.world_rows.specs.WorldRows as world_rows

@@ -1,42 +1,40 @@
 -- The parts of `NEXT` and `BATCH` as a desk does them.
-use Rattle.std.proofs.Common.{◌≡◌, ◌≢◌, inl, inr, ℕ, ◌≤◌, ◌<◌, zero, suc, Bool, true, false, List, [], ◌∷◌, ◌++◌, length, refl, ap, sym, ◌∙◌, subst, arith, nat_lt, Option, Some, None, Result, Ok, Err, if◌then◌else◌}
+use Rattle.std.proofs.Common.{◌≡◌, inl, inr, ℕ, ◌≤◌, ◌<◌, suc, Bool, true, false, length, refl, ap, sym, ◌∙◌, subst, arith, Option, Some, None, Result, Ok, Err}
 use Rattle.std.specs.Result.{IsErr}
 use Rattle.std.proofs.lemmas.Bool.Decides.{nat_tests}
 use Rattle.ali_base.specs.declared.no_memory.NoMemory.{NoMemory}
-use Rattle.ali_base.specs.declared.names.DiskName.{DiskName}
 use Rattle.ali_base.specs.declared.names.DiskName.TheVariants as disk
 use Rattle.ali_base.specs.declared.names.NodeName.{NodeName}
 use Rattle.ali_base.specs.declared.names.NodeName.TheVariants.{A}
 use Rattle.batch_desk.specs.Jobs.{job_standing, next_of}
 use Rattle.batch_desk.specs.declared.job.Job.{Job}
-use Rattle.command_machine.specs.CommandRows.{refused, held, learning, not_next, finished, found_row, job_row, append_row, write_row, next_row, event_row}
+use Rattle.command_machine.specs.CommandRows.{refused, held, learning, not_next, finished, found_row, job_row, append_row, write_row}
 use Rattle.command_machine.specs.Commands as commands
 use Rattle.command_machine.specs.Courses.{Event, First, Writes, Books, row_of, then_comes, told_of, written_or_booked}
-use Rattle.command_machine.specs.DeskSteps.{Leads, LeadsOn, Stays, IsGiven, Readies, NextAnswers, IsWritten, IsBooked, IsLast, IsLeft, IsFound, GoesThrough, PartSwitches, part_told, at_event, after_booking}
-use Rattle.command_machine.specs.Machine.{Machine, Moment, IsLawful, holder_of, count_of, state_of, with_world, office_bounds}
-use Rattle.command_machine.specs.MadeReply.{ShowsMachine, Carries, CarriedOut, counts_of, table_of, reply_of, told_by}
+use Rattle.command_machine.specs.DeskSteps.{Leads, LeadsOn, Stays, IsGiven, Readies, NextAnswers, IsWritten, IsBooked, IsLast, IsFound, GoesThrough, PartSwitches, part_told, at_event, after_booking}
+use Rattle.command_machine.specs.Machine.{Machine, Moment, IsLawful, holder_of, count_of, state_of, office_bounds}
+use Rattle.command_machine.specs.MadeReply.{ShowsMachine, Carries, table_of, reply_of, told_by}
 use Rattle.command_machine.specs.Replies as replies
-use Rattle.command_machine.specs.Steps.{Course, Runs, GoesOn, Moves, Steps, StepsInPart, begun, over}
+use Rattle.command_machine.specs.Steps.{Course, Runs, GoesOn, begun}
 use Rattle.command_machine.specs.declared.desk.Desk.{Desk}
 use Rattle.command_machine.specs.declared.refusal.Refusal.TheVariants as refusal
 use Rattle.command_machine.specs.declared.reply.Reply.{Reply}
 use Rattle.command_machine.specs.declared.reply.Reply.TheVariants as reply
-use Rattle.command_machine.proofs.DeskMoves.{given_since, passed_none, stays_twice}
+use Rattle.command_machine.proofs.DeskMoves.{given_since, stays_twice}
 use Rattle.command_machine.proofs.DeskRuns.{IsOneEvent, carried}
 use Rattle.command_machine.proofs.ShownWorlds.{holder_is, duty_up, node_up, node_down, len_shown}
 use Rattle.crash_disk.specs.DiskState.{DiskState}
 use Rattle.office_entry.specs.declared.entry.Entry.{Entry}
-use Rattle.office_state.specs.OfficeState.{State, office_limits}
+use Rattle.office_state.specs.OfficeState.{State}
 use Rattle.pair_node.specs.LoneNode as lone
 use Rattle.pair_node.specs.declared.faults.LoneFault.TheVariants as faults
 use Rattle.pair_world.specs.Refusals as refusals
 use Rattle.pair_world.specs.Refusals.{Refusal}
-use Rattle.pair_world.specs.World.{World, node_at, holder_journal}
+use Rattle.pair_world.specs.World.{node_at, holder_journal}
 use Rattle.pair_world.proofs.RowTests.{lt_passes}
 use Rattle.world_rows.specs.Counts.{Counts, NeverFall}
-use Rattle.world_rows.specs.Rows.{Row, Unless, MayFail, Always, Success, Gives}
+use Rattle.world_rows.specs.Rows.{Row, Unless, Success, Gives}
 use Rattle.world_rows.specs.Told as world
-use Rattle.world_rows.specs.WorldRows as rows
 
 no_fall : (m : Moment) → NeverFall m.counts m.counts
 no_fall m d = omega arith
@@ -138,6 +136,7 @@ ends_alike true m (replies.Told world.Ready) last = absurd last
 ends_alike true m (replies.Told (world.Written n e)) last = absurd last
 ends_alike true m (replies.Told (world.Booked n v)) last = absurd last
 ends_alike true m (replies.Answer count form) last = record { tells = refl; next = refl }
+ends_alike true m (replies.Reported count text) last = record { tells = refl; next = refl }
 ends_alike true m (replies.Framing fault) last = record { tells = refl; next = refl }
 ends_alike true m (replies.Standing fault) last = record { tells = refl; next = refl }
 ends_alike true m replies.No_job last = record { tells = refl; next = refl }
@@ -166,6 +165,7 @@ ends_alike false m (replies.Told world.Ready) last = absurd last
 ends_alike false m (replies.Told (world.Written n e)) last = absurd last
 ends_alike false m (replies.Told (world.Booked n v)) last = absurd last
 ends_alike false m (replies.Answer count form) last = record { tells = refl; next = refl }
+ends_alike false m (replies.Reported count text) last = record { tells = refl; next = refl }
 ends_alike false m (replies.Framing fault) last = record { tells = refl; next = refl }
 ends_alike false m (replies.Standing fault) last = record { tells = refl; next = refl }
 ends_alike false m replies.No_job last = record { tells = refl; next = refl }

@@ -1,15 +1,15 @@
 -- Courses of a desk: events one after the other.
-use Rattle.std.proofs.Common.{◌≡◌, ◌≢◌, inl, inr, ℕ, zero, suc, Bool, true, false, List, [], ◌∷◌, length, refl, ap, sym, ◌∙◌, subst, arith, Option, Some, None, Result, Ok, Err, MatchResult}
+use Rattle.std.proofs.Common.{◌≡◌, ◌≢◌, Bool, true, [], ◌∷◌, refl, ap, sym, ◌∙◌, subst, Option, Some, None, Result, Ok, Err, MatchResult}
 use Rattle.ali_base.specs.declared.no_memory.NoMemory.{NoMemory}
 use Rattle.ali_base.specs.declared.names.NodeName.TheVariants.{A}
 use Rattle.command_machine.specs.CommandRows.{command_row}
 use Rattle.command_machine.specs.Commands as commands
-use Rattle.command_machine.specs.Courses.{Event, First, row_of, then_comes, told_of}
+use Rattle.command_machine.specs.Courses.{First, row_of, then_comes, told_of}
 use Rattle.command_machine.specs.DeskSteps.{Leads, Stays, IsGiven}
-use Rattle.command_machine.specs.Machine.{Machine, Moment, IsLawful, with_world}
-use Rattle.command_machine.specs.MadeReply.{ShowsMachine, Carries, counts_of, table_of, reply_of, told_by, fault_reply}
+use Rattle.command_machine.specs.Machine.{Moment, with_world}
+use Rattle.command_machine.specs.MadeReply.{Carries, counts_of, table_of, reply_of}
 use Rattle.command_machine.specs.Replies as replies
-use Rattle.command_machine.specs.Steps.{Course, Runs, GoesOn, Moves, Steps, StepsInPart, begun, over}
+use Rattle.command_machine.specs.Steps.{GoesOn, Steps, begun, over}
 use Rattle.command_machine.specs.declared.desk.Desk.{Desk}
 use Rattle.command_machine.specs.declared.refusal.Refusal.TheVariants as refusal
 use Rattle.command_machine.specs.declared.reply.Reply.{Reply}

@@ -1,5 +1,5 @@
 -- An entry that is next of the job is written as the machine writes it.
-use Rattle.std.proofs.Common.{◌≡◌, ℕ, ◌+◌, Bool, List, [], ◌∷◌, refl, ap, sym, ◌∙◌, subst, arith, Option, Some, None, Result, Ok, Err}
+use Rattle.std.proofs.Common.{◌≡◌, ℕ, ◌+◌, Bool, List, refl, ap, sym, ◌∙◌, subst, arith, Option, Some, None, Result, Ok, Err}
 use Rattle.std.specs.Result.{IsErr}
 use Rattle.ali_base.specs.declared.no_memory.NoMemory.{NoMemory}
 use Rattle.std.proofs.lemmas.Bool.Decides.{nat_tests}
@@ -12,9 +12,9 @@ use Rattle.batch_desk.specs.declared.job.Job.TheVariants.{File, Edit}
 use Rattle.batch_desk.proofs.KeptStates.{IsKept, kept_state}
 use Rattle.batch_desk.proofs.Steps.{ready, step, completed}
 use Rattle.command_machine.specs.CommandRows.{not_next, write_row}
-use Rattle.command_machine.specs.DeskSteps.{LeadsOn, IsGiven, IsWritten, Stays, part_told}
-use Rattle.command_machine.specs.Machine.{Machine, Moment, IsLawful, HasJob, state_of, with_world, office_bounds}
-use Rattle.command_machine.specs.MadeReply.{ShowsMachine, counts_of, table_of, reply_of}
+use Rattle.command_machine.specs.DeskSteps.{LeadsOn, IsGiven, IsWritten, part_told}
+use Rattle.command_machine.specs.Machine.{Machine, IsLawful, HasJob, state_of, office_bounds}
+use Rattle.command_machine.specs.MadeReply.{counts_of, table_of, reply_of}
 use Rattle.command_machine.specs.Replies as replies
 use Rattle.command_machine.specs.declared.desk.Desk.{Desk}
 use Rattle.command_machine.specs.declared.refusal.Refusal.TheVariants as refusal

@@ -4,6 +4,7 @@ use Rattle.std.specs.List.{AllByRecursion}
 use Rattle.ali_base.specs.declared.names.DiskName.{DiskName}
 use Rattle.ali_base.specs.declared.names.NodeName.{NodeName}
 use Rattle.ali_base.specs.declared.names.NodeName.TheVariants.{A, B}
+use Rattle.audit_reports.specs.declared.report.Report.{Report as OfficeReport}
 use Rattle.batch_desk.specs.Jobs.{IsJob, job_standing, next_of, entries_left}
 use Rattle.batch_desk.specs.declared.job.Job.{Job}
 use Rattle.batch_desk.specs.declared.job.Job.TheVariants as jobs
@@ -36,7 +37,7 @@ use Rattle.world_rows.specs.Told.{Told as WorldTold}
 use Rattle.world_rows.specs.Told as told
 use Rattle.world_rows.specs.WorldSteps.{OfficeEvent, IsStep}
 use Rattle.world_rows.proofs.Steps.{step_is_lawful, step_only_grows, lawful_is_legal}
-use Rattle.command_machine.specs.CommandRows.{refused, not_next, ask_row, read_row, append_row, job_row, write_row, found_row, next_row, command_row}
+use Rattle.command_machine.specs.CommandRows.{refused, not_next, ask_row, report_row, read_row, append_row, job_row, write_row, found_row, next_row, command_row}
 use Rattle.command_machine.specs.Commands as commands
 use Rattle.command_machine.specs.Commands.{Command, IsCommand}
 use Rattle.command_machine.specs.Courses.{Event, First, Writes, Books, row_of, then_comes}
@@ -115,6 +116,9 @@ module _ (m : Machine) (lawful : IsLawful m) where
   ask_leads : (tn : List ℕ) (since : ℕ) → Leads m (ask_row m tn since)
   ask_leads tn since = λ register up on_duty seen. (falls A (up_of A (open_of _ up)), keeps_self m lawful)
 
+  report_leads : (report : OfficeReport) → Leads m (report_row m report)
+  report_leads report = λ register up on_duty. (falls A (up_of A (open_of _ up)), keeps_self m lawful)
+
   read_leads : (fault : Option Reply) (job : Job) → (fault ≡ None → IsJob job) → Leads m (read_row m fault job)
   read_leads fault job is =
       λ none register up. (
@@ -181,6 +185,7 @@ module _ (m : Machine) (lawful : IsLawful m) where
 
   command_leads : (lasted : Bool) (command : Command) → IsCommand command → Leads m (command_row m lasted command)
   command_leads lasted (commands.Ask position tn since) is = ask_leads tn since
+  command_leads lasted (commands.Report report) is = report_leads report
   command_leads lasted (commands.File content) is = read_leads (option_map Framing (frame_fault content)) (jobs.File content) (framed (frame_fault content))
   command_leads lasted (commands.Edit editor serial edit) is = read_leads None (jobs.Edit editor serial edit) (λ e. is)
   command_leads lasted commands.Next is = next_leads false

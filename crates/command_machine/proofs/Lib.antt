@@ -1,5 +1,6 @@
 pub mod AskTexts
 pub mod EditTexts
+pub mod ReportTexts
 pub mod CommandLines
 pub mod Lawful
 pub mod OneReply
@@ -15,3 +16,4 @@ pub mod DeskRuns
 pub mod DeskParts
 pub mod DeskBatches
 pub mod DeskReads
+pub mod DeskReports

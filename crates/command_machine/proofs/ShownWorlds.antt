@@ -1,5 +1,5 @@
 -- What a world that the office of one node shows says of its rows.
-use Rattle.std.proofs.Common.{◌≡◌, ℕ, Bool, true, false, not, List, length, take, refl, ap, sym, ◌∙◌, subst, Option, Some, None, Result, Ok}
+use Rattle.std.proofs.Common.{◌≡◌, ℕ, Bool, true, false, not, List, length, take, refl, ap, ◌∙◌, subst, Option, Some, None}
 use Rattle.ali_base.specs.Steps.{when}
 use Rattle.ali_base.specs.declared.duty.Duty.{Duty}
 use Rattle.ali_base.specs.declared.names.DiskName.TheVariants as disk
@@ -8,8 +8,8 @@ use Rattle.ali_base.specs.declared.names.NodeName.TheVariants.{A}
 use Rattle.crash_disk.specs.DiskState.{DiskState}
 use Rattle.node_journal.proofs.Represented.{length-epochs}
 use Rattle.office_entry.specs.declared.entry.Entry.{Entry}
-use Rattle.office_state.specs.History.{state}
-use Rattle.office_state.specs.OfficeState.{State, office_limits}
+use Rattle.office_state.specs.History.{Represents}
+use Rattle.office_state.specs.OfficeState.{office_limits}
 use Rattle.pair_node.specs.LoneNode.{Shows, node_of, is_up, count_of, len_of, table_of}
 use Rattle.pair_node.specs.NodeState.{learned_of}
 use Rattle.pair_node.specs.declared.lone_node.LoneNode.{LoneNode}
@@ -50,10 +50,17 @@ module _ {D : Type 0} (state_of_disk : D → DiskState) (office : LoneNode D) (w
   pub len_shown : is_up office ≡ true → len_of office ≡ length (w.base.nodes.a).journal
   len_shown up = ap length ((shown.frames up).journal.known) ∙ length-epochs (w.base.nodes.a).journal
 
-  -- a table that has learned all that is booked is the one after the booked history
+  -- the journal that a table has learned is the booked history, where it has learned as much
+  learned_is : IsSound (due_after office_limits) w → learned_of (node_of office) ≡ count_of office → take (learned_of (node_of office)) (w.base.nodes.a).journal ≡ w.base.booked
+  learned_is sound learned =
+      ap (λ (n : ℕ). take n (w.base.nodes.a).journal) (learned ∙ shown.count) ∙ front_of w sound holder_is
+
+  -- a table that has learned all that is booked represents the booked history
+  pub table_shown : IsSound (due_after office_limits) w → is_up office ≡ true → learned_of (node_of office) ≡ count_of office → Represents office_limits (table_of office) (entries w.base.booked)
+  table_shown sound up learned =
+      subst (λ (frames : List (Frame Entry)). Represents office_limits (table_of office) (entries frames)) (learned_is sound learned) (shown.frames up).table
+
+  -- and is the one after it
   pub state_shown : IsSound (due_after office_limits) w → is_up office ≡ true → learned_of (node_of office) ≡ count_of office → (let table = table_of office in table.state) ≡ state_of office_limits w
   state_shown sound up learned =
-      let journal = (w.base.nodes.a).journal in
-      let booked : take (learned_of (node_of office)) journal ≡ w.base.booked =
-      ap (λ (n : ℕ). take n journal) (learned ∙ shown.count) ∙ front_of w sound holder_is in
-      (shown.frames up).table.same ∙ ap (λ (frames : List (Frame Entry)). state office_limits (entries frames)) booked
+      (table_shown sound up learned).same

@@ -87,6 +87,7 @@ module _ (m : Machine) (sure : IsSure m) where
 
   command_sure : (lasted : Bool) (command : Command) → LeavesSure (command_row m lasted command)
   command_sure lasted (commands.Ask position tn since) = sure
+  command_sure lasted (commands.Report report) = sure
   command_sure lasted (commands.File content) = record { a = sure.a; b = sure.b; duty = sure.duty }
   command_sure lasted (commands.Edit editor serial edit) = record { a = sure.a; b = sure.b; duty = sure.duty }
   command_sure lasted commands.Next = found_sure false m.job
@@ -123,6 +124,7 @@ module _ (m : Machine) (sure : IsSure m) where
 
   command_same : (lasted : Bool) (command : Command) → command_row m lasted command ≡ command_row m false command
   command_same lasted (commands.Ask position tn since) = refl
+  command_same lasted (commands.Report report) = refl
   command_same lasted (commands.File content) = refl
   command_same lasted (commands.Edit editor serial edit) = refl
   command_same lasted commands.Next = refl

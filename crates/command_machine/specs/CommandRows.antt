@@ -3,14 +3,16 @@ use Rattle.std.specs.Prelude.{ℕ, suc, List, length, Bool, true, false, Option,
 use Rattle.std.specs.FinMap.{get}
 use Rattle.std.specs.Option.{option_map}
 use Rattle.ali_base.specs.declared.names.NodeName.TheVariants.{A}
+use Rattle.audit_reports.specs.ReportText.{report_text}
+use Rattle.audit_reports.specs.declared.report.Report.{Report as OfficeReport}
 use Rattle.batch_desk.specs.JobReplies.{read_of, done_of}
 use Rattle.batch_desk.specs.Jobs.{job_standing, next_of}
 use Rattle.batch_desk.specs.declared.job.Job.{Job}
 use Rattle.batch_desk.specs.declared.job.Job.TheVariants as jobs
 use Rattle.batch_frame.specs.FrameFault.{frame_fault}
-use Rattle.command_machine.specs.Commands.{Command, Ask, File, Edit, Next, Batch, Stop, Start}
-use Rattle.command_machine.specs.Machine.{Machine, office_bounds, holder_of, count_of, state_of, with_world}
-use Rattle.command_machine.specs.Replies.{Reply, Told, Answer, Framing, Standing, No_job, Read, Complete, Finished}
+use Rattle.command_machine.specs.Commands.{Command, Ask, Report, File, Edit, Next, Batch, Stop, Start}
+use Rattle.command_machine.specs.Machine.{Machine, office_bounds, holder_of, count_of, state_of, history_of, with_world}
+use Rattle.command_machine.specs.Replies.{Reply, Told, Answer, Reported, Framing, Standing, No_job, Read, Complete, Finished}
 use Rattle.office_entry.specs.declared.entry.Entry.{Entry}
 use Rattle.office_state.specs.OfficeState.{office_limits, State}
 use Rattle.office_state.specs.declared.due_fault.DueFault.{DueFault}
@@ -70,6 +72,16 @@ module _ (m : Machine) where
       (MayFail (disk_of A) (with_world m (read_failed w A))
       (Success (Answer (count_of m) (form (get s.table tn) tn)) m)))))
 
+  -- `REPORT`: the text of a report over all booked entries
+  abbrev pub report_row : OfficeReport → Row Reply Machine
+  report_row report =
+      let w = m.world in
+      Unless (refused (refusals.duty_is_down w))
+      (Unless (refused (refusals.node_is_down w A))
+      (Unless (refused (refusals.not_in_duty w A))
+      (MayFail (disk_of A) (with_world m (read_failed w A))
+      (Success (Reported (count_of m) (report_text office_limits (history_of m) report)) m))))
+
   -- `FILE` and `EDIT`: what is read becomes the job, and what is refused leaves the job that was
   abbrev pub read_row : Option Reply → Job → Row Reply Machine
   read_row fault job =
@@ -114,6 +126,7 @@ module _ (m : Machine) where
   -- the first event of a command; lasted says of a disk in doubt that its failed write did last
   abbrev pub command_row : Bool → Command → Row Reply Machine
   command_row lasted (Ask position tn since) = ask_row tn since
+  command_row lasted (Report report) = report_row report
   command_row lasted (File content) = read_row (option_map Framing (frame_fault content)) (jobs.File content)
   command_row lasted (Edit editor serial edit) = read_row None (jobs.Edit editor serial edit)
   command_row lasted Next = next_row false

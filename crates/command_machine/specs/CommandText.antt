@@ -2,15 +2,22 @@
 use Rattle.std.specs.Prelude.{◌≡◌, ℕ, ◌≤◌, List, ◌∷◌, ◌++◌, codes}
 use Rattle.std.specs.Fmt.{decimal}
 use Rattle.ali_base.specs.Editors.{IsEditor, IsSerial}
+use Rattle.audit_reports.specs.Reports.{IsReport}
+use Rattle.audit_reports.specs.ReportWords.{report_words}
+use Rattle.audit_reports.specs.declared.report.Report.{Report as OfficeReport}
 use Rattle.office_entry.specs.EditText.{IsEditText}
 use Rattle.command_machine.specs.Commands.{IsAsk}
 use Rattle.command_machine.specs.declared.command.TheConstants.{FILE_LIMIT}
 use Rattle.command_machine.specs.declared.command_line.CommandLine.{CommandLine}
-use Rattle.command_machine.specs.declared.command_line.CommandLine.TheVariants.{Ask, File, Edit, Next, Batch, Stop, Start}
+use Rattle.command_machine.specs.declared.command_line.CommandLine.TheVariants.{Ask, Report, File, Edit, Next, Batch, Stop, Start}
 
 -- `ASK a position tn since`; the one node's letter is a
 abbrev pub ask_text : ℕ → List ℕ → ℕ → List ℕ
 ask_text position tn since = codes "ASK" ++ 32 ∷ (codes "a" ++ 32 ∷ (decimal position ++ 32 ∷ (tn ++ 32 ∷ decimal since)))
+
+-- `REPORT a report`
+abbrev pub report_command_text : OfficeReport → List ℕ
+report_command_text report = codes "REPORT" ++ 32 ∷ (codes "a" ++ 32 ∷ report_words report)
 
 -- `FILE length`
 abbrev pub file_text : ℕ → List ℕ
@@ -36,6 +43,7 @@ pub record IsEditLine (text : List ℕ) (editor serial : ℕ) (words : List ℕ)
 -- the text is that of this line
 abbrev pub SpellsLine : List ℕ → CommandLine → Type 0
 SpellsLine text (Ask ask) = IsAsk ask.position ask.tn ask.since × (text ≡ ask_text ask.position ask.tn ask.since)
+SpellsLine text (Report report) = IsReport report × (text ≡ report_command_text report)
 SpellsLine text (File len) = (len ≤ FILE_LIMIT) × (text ≡ file_text len)
 SpellsLine text (Edit editor serial edit) = (words : List ℕ) × IsEditText words edit × IsEditLine text editor serial words
 SpellsLine text Next = text ≡ codes "NEXT"

@@ -19,6 +19,7 @@ use Rattle.crash_disk.specs.DiskState.{DiskState}
 use Rattle.office_entry.specs.declared.entry.Entry.{Entry}
 use Rattle.office_state.specs.OfficeState.{State, office_limits}
 use Rattle.pair_node.specs.LoneNode as lone
+use Rattle.pair_node.specs.NodeState.{learned_of}
 use Rattle.sequence_once.specs.declared.standing.Standing.TheVariants as standing
 use Rattle.world_rows.specs.Counts.{NeverFall}
 use Rattle.world_rows.specs.Rows.{Row, Gives}
@@ -53,6 +54,12 @@ Readies s (Ok None) m now = Stays m now × (s ≡ state_of now.machine)
 Readies s (Ok (Some told)) m now =
     (rest : Row replies.Reply Machine) → IsGiven (held m.machine (learning m.machine rest)) told m now
 Readies s (Err e) m now = Stays m now
+
+-- a table that is made ready has learned all that is booked
+abbrev pub IsLearned : {D : Type 0} → Desk D → Result (Option Reply) NoMemory → Type 0
+IsLearned desk (Ok None) = learned_of (lone.node_of desk.office) ≡ lone.count_of desk.office
+IsLearned desk (Ok (Some told)) = Unit {0}
+IsLearned desk (Err e) = Unit {0}
 
 -- a reply that ends `NEXT` and `BATCH`, or their entry
 abbrev pub IsLast : replies.Reply → Type 0

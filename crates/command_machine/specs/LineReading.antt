@@ -5,10 +5,11 @@ use Rattle.ali_base.specs.Steps.{◌>>=◌, when}
 use Rattle.ali_base.specs.TelephoneNumber.{tn_of}
 use Rattle.ali_base.specs.declared.editor.TheConstants.{EDITORS, LAST_SERIAL}
 use Rattle.text_line.specs.WordReading.{number_of, split_once}
+use Rattle.audit_reports.specs.WordsReading.{report_of as report_named}
 use Rattle.office_entry.specs.EditReading.{edit_of_text}
 use Rattle.command_machine.specs.declared.command.TheConstants.{FILE_LIMIT, POSITIONS}
 use Rattle.command_machine.specs.declared.command_line.CommandLine.{CommandLine}
-use Rattle.command_machine.specs.declared.command_line.CommandLine.TheVariants.{Ask, File, Edit, Next, Batch, Stop, Start}
+use Rattle.command_machine.specs.declared.command_line.CommandLine.TheVariants.{Ask, Report, File, Edit, Next, Batch, Stop, Start}
 
 -- behind `ASK`: `a position tn since`
 unfoldable pub ask_of : List ℕ → Option CommandLine
@@ -20,6 +21,13 @@ ask_of words = do
   tn ← tn_of number.0
   since ← number_of number.1
   when (bytes_eq node.0 (codes "a") && nat_le 1 p && nat_le p POSITIONS) (Ask (record { position = p; tn = tn; since = since }))
+
+-- behind `REPORT`: `a report`
+unfoldable pub report_of : List ℕ → Option CommandLine
+report_of words = do
+  node ← split_once 32 words
+  report ← report_named node.1
+  when (bytes_eq node.0 (codes "a")) (Report report)
 
 -- behind `FILE`: `length`
 unfoldable pub file_of : List ℕ → Option CommandLine
@@ -50,13 +58,15 @@ abbrev pub by_word : List ℕ → List ℕ → Option CommandLine
 by_word word words =
     if bytes_eq word (codes "ASK")
     then ask_of words
+    else (if bytes_eq word (codes "REPORT")
+    then report_of words
     else (if bytes_eq word (codes "FILE")
     then file_of words
     else (if bytes_eq word (codes "EDIT")
     then edit_of words
     else (if bytes_eq word (codes "STOP")
     then of_node words Stop
-    else (if bytes_eq word (codes "START") then of_node words Start else None))))
+    else (if bytes_eq word (codes "START") then of_node words Start else None)))))
 
 -- a line in two parts at its first space, or without one
 abbrev pub line_in : List ℕ → Option (List ℕ × List ℕ) → Option CommandLine

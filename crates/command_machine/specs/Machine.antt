@@ -7,7 +7,7 @@ use Rattle.node_journal.specs.declared.frame.TheConstants.{LAST_EPOCH, MOST_FRAM
 use Rattle.office_entry.specs.declared.entry.Entry.{Entry}
 use Rattle.office_state.specs.OfficeState.{State, office_limits}
 use Rattle.pair_node.specs.LoneNode.{lone_world}
-use Rattle.pair_world.specs.Frames.{Frame}
+use Rattle.pair_world.specs.Frames.{Frame, entries}
 use Rattle.pair_world.specs.Step.{Bounds}
 use Rattle.pair_world.specs.World.{World}
 use Rattle.world_rows.specs.Counts.{Counts}
@@ -41,6 +41,10 @@ count_of m = length m.world.base.booked
 
 abbrev pub state_of : Machine → State
 state_of m = state_in office_limits m.world
+
+-- the booked entries
+abbrev pub history_of : Machine → List Entry
+history_of m = entries m.world.base.booked
 
 -- the machine in another world
 abbrev pub with_world : Machine → World Entry → Machine

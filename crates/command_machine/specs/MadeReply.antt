@@ -1,15 +1,15 @@
 -- A command of the program as a command, and a reply of the program as a reply; and what a desk does.
-use Rattle.std.specs.Prelude.{◌≡◌, ◌⊎◌, ℕ, List, [], ◌∷◌, Bool, Option, Some, None, Result, Ok, Err}
+use Rattle.std.specs.Prelude.{◌≡◌, [], ◌∷◌, Bool, Option, Some, None, Result, Ok, Err}
 use Rattle.ali_base.specs.declared.names.NodeName.TheVariants.{A}
 use Rattle.ali_base.specs.declared.no_memory.NoMemory.{NoMemory}
 use Rattle.batch_desk.specs.Jobs.{job_standing}
 use Rattle.batch_desk.specs.declared.job.Job.{Job}
 use Rattle.command_machine.specs.Commands as commands
-use Rattle.command_machine.specs.Machine.{Machine, Moment, IsLawful, office_bounds}
+use Rattle.command_machine.specs.Machine.{Moment, IsLawful, office_bounds}
 use Rattle.command_machine.specs.Replies as replies
 use Rattle.command_machine.specs.Steps.{Steps, StepsInPart}
 use Rattle.command_machine.specs.declared.command.Command.{Command}
-use Rattle.command_machine.specs.declared.command.Command.TheVariants.{Ask, File, Edit, Next, Batch, Stop, Start}
+use Rattle.command_machine.specs.declared.command.Command.TheVariants.{Ask, Report, File, Edit, Next, Batch, Stop, Start}
 use Rattle.command_machine.specs.declared.desk.Desk.{Desk}
 use Rattle.command_machine.specs.declared.refusal.Refusal.{Refusal}
 use Rattle.command_machine.specs.declared.refusal.Refusal.TheVariants as refusal
@@ -22,11 +22,12 @@ use Rattle.pair_node.specs.LoneNode as lone
 use Rattle.pair_node.specs.declared.faults.LoneFault.{LoneFault}
 use Rattle.pair_world.specs.Refusals.{Ahead}
 use Rattle.sequence_once.specs.declared.standing.Standing.TheVariants as standing
-use Rattle.world_rows.specs.Counts.{Counts, NeverFall}
+use Rattle.world_rows.specs.Counts.{Counts}
 use Rattle.world_rows.specs.Told as told
 
 abbrev pub command_of : Command → commands.Command
 command_of (Ask ask) = commands.Ask ask.position ask.tn ask.since
+command_of (Report report) = commands.Report report
 command_of (File content) = commands.File content.now
 command_of (Edit editor serial edit) = commands.Edit editor serial edit
 command_of Next = commands.Next
@@ -58,6 +59,7 @@ finished s (Some job) = replies.Finished s job
 abbrev pub reply_of : State → Option Job → Reply → replies.Reply
 reply_of s job (reply.Refused refusal) = refusal_reply refusal
 reply_of s job (reply.Answer count form) = replies.Answer count form
+reply_of s job (reply.Reported count text) = replies.Reported count text.items
 reply_of s job (reply.Read read) = replies.Read read
 reply_of s job (reply.Complete done) = replies.Complete done
 reply_of s job (reply.Booked number code detail) = replies.Told (told.Booked number (record { code = code; detail = detail }))

@@ -1,8 +1,7 @@
 -- Opening and closing a desk, and what its commands keep over any disk.
-use Rattle.std.specs.Prelude.{◌≡◌, ℕ, ◌≤◌, List, length, Option, Some, None, Result, Ok, Err}
+use Rattle.std.specs.Prelude.{◌≡◌, None, Result, Ok, Err}
 use Rattle.ali_base.specs.declared.no_memory.NoMemory.{NoMemory}
 use Rattle.command_machine.specs.Commands.{Command}
-use Rattle.command_machine.specs.Machine.{office_bounds}
 use Rattle.command_machine.specs.MadeReply.{counts_of, is_up, reply_of, table_of}
 use Rattle.command_machine.specs.Switches.{IsSwitched}
 use Rattle.command_machine.specs.declared.desk.Desk.{Desk}

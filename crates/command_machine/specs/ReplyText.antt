@@ -8,7 +8,7 @@ use Rattle.ali_base.specs.declared.names.DiskName.{DiskName}
 use Rattle.ali_base.specs.declared.names.DiskName.TheVariants as disk
 use Rattle.batch_desk.specs.JobReplies.{job_reply}
 use Rattle.batch_desk.specs.ReplyLines.{frame_line, refusal_line, read_line, done_line}
-use Rattle.command_machine.specs.Replies.{Reply, Told, Answer, Framing, Standing, No_job, Read, Complete, Finished}
+use Rattle.command_machine.specs.Replies.{Reply, Told, Answer, Reported, Framing, Standing, No_job, Read, Complete, Finished}
 use Rattle.pair_world.specs.Refusals as refusal
 use Rattle.text_line.specs.WordLines.{line_of}
 use Rattle.world_rows.specs.Told as told
@@ -99,6 +99,7 @@ told_line (told.Damaged d frame) = line_of (codes "DAMAGED" ∷ disk_text d ∷ 
 abbrev pub reply_line : Reply → List ℕ
 reply_line (Told told) = told_line told
 reply_line (Answer count form) = numbers_line (codes "ANSWER") count (length form)
+reply_line (Reported count text) = numbers_line (codes "REPORT") count (length text)
 reply_line (Framing fault) = frame_line fault
 reply_line (Standing fault) = refusal_line fault
 reply_line No_job = line_of (codes "NO" ∷ codes "JOB" ∷ [])
@@ -106,9 +107,10 @@ reply_line (Read job) = read_line job
 reply_line (Complete job) = done_line job
 reply_line (Finished s job) = []
 
--- what follows the line, if anything: a form, or all of the reply to a finished job
+-- what follows the line, if anything: a form, the text of a report, or all of the reply to a finished job
 abbrev pub reply_block : Reply → List ℕ
 reply_block (Answer count form) = form
+reply_block (Reported count text) = text
 reply_block (Finished s job) = job_reply s job
 reply_block reply = []
 

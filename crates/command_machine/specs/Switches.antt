@@ -1,9 +1,9 @@
 -- What holds of the replies over any disk, also one that tells nothing of its bytes: whether the node is up is what the replies before told.
-use Rattle.std.specs.Prelude.{◌≡◌, ◌↔◌, ℕ, Bool, true, false, Option, Some, None}
+use Rattle.std.specs.Prelude.{◌≡◌, ◌↔◌, Bool, true, false, None}
 use Rattle.ali_base.specs.declared.names.DiskName.{DiskName}
 use Rattle.ali_base.specs.declared.names.DiskName.TheVariants.{A}
 use Rattle.batch_frame.specs.FrameFault.{frame_fault}
-use Rattle.command_machine.specs.Commands.{Command, Ask, File, Edit, Next, Batch, Stop, Start}
+use Rattle.command_machine.specs.Commands.{Command, File, Start}
 use Rattle.command_machine.specs.Replies.{Reply, Told}
 use Rattle.pair_world.specs.Refusals.{Down, Up, Short}
 use Rattle.world_rows.specs.Counts.{Counts, RoseAt}

@@ -1,5 +1,6 @@
 //! Commands.
 use ali_base::{Editor, Serial, Tn};
+use audit_reports::Report;
 use office_entry::Edit;
 
 /// The most bytes of a carrier's file.
@@ -23,6 +24,8 @@ pub struct Ask {
 pub enum Command<'a> {
     /// A position asks for a number.
     Ask(Ask),
+    /// A report of the office is written.
+    Report(Report),
     /// The bytes of a carrier's file, which is read.
     File(&'a [u8]),
     /// An editor's edit of the street guide, which is read.

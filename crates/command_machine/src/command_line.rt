@@ -1,9 +1,10 @@
 //! The line of a command.
 ghost use Rattle.std.specs.Prelude.{◌≡◌, ◌<◌, length, IfSome};
-ghost use Rattle.command_machine.specs.LineReading.{ask_of, file_of, edit_of, of_node, word_alone, line_of};
+ghost use Rattle.command_machine.specs.LineReading.{ask_of, report_of, file_of, edit_of, of_node, word_alone, line_of};
 
 use crate::command::{Ask, FILE_LIMIT, POSITIONS};
 use ali_base::{EDITORS, Editor, Serial, Tn};
+use audit_reports::Report;
 use office_entry::Edit;
 use text_line::{number_of, split_once};
 
@@ -12,6 +13,8 @@ use text_line::{number_of, split_once};
 pub enum CommandLine {
     /// `ASK a position tn since`
     Ask(Ask),
+    /// `REPORT a report`
+    Report(Report),
     /// `FILE length`: so many bytes of a carrier's file follow.
     File(u32),
     /// `EDIT editor serial edit`
@@ -43,6 +46,8 @@ impl CommandLine {
         };
         if word == b"ASK".as_slice() {
             ask_of(words)
+        } else if word == b"REPORT".as_slice() {
+            report_of(words)
         } else if word == b"FILE".as_slice() {
             file_of(words)
         } else if word == b"EDIT".as_slice() {
@@ -90,6 +95,19 @@ fn ask_of(words: &[u8]) -> Option<CommandLine>
         tn,
         since,
     }))
+}
+
+// Behind `REPORT`: `a report`
+#[tactic(auto, unfolding(crate::specs::LineReading::report_of))]
+fn report_of(words: &[u8]) -> Option<CommandLine>
+    ensures { result ≡ report_of words.now }
+{
+    let (node, report) = split_once(words, b' ')?;
+    let report = Report::read_text(report)?;
+    if node != b"a".as_slice() {
+        return None;
+    }
+    Some(CommandLine::Report(report))
 }
 
 // Behind `FILE`: `length`, at most 16,777,216

@@ -15,11 +15,12 @@ ghost use Rattle.pair_node.specs.LoneNode as lone;
 ghost use Rattle.pair_node.specs.declared.faults.LoneFault.{LoneFault as AnyFault};
 
 use crate::command::{Ask, Command};
-use crate::lines::{node_line, numbers_line, stopped_line};
+use crate::lines::{node_line, numbers_line, report_line, stopped_line};
 use crate::not_read::{cycle_fault, not_read};
 use crate::refusal::Refusal;
 use crate::reply::Reply;
 use ali_base::{DiskName, Editor, NoMemory, NodeName, Serial, Sink, SinkFault, put_all};
+use audit_reports::{Report, report_text};
 use batch_desk::{
     Job, done_line, job_done, job_read, next_entry, put_reply, read_line, submit_edit, submit_lent,
 };
@@ -44,7 +45,7 @@ pub struct Desk<D> {
 impl<D: Disk + Drop> Desk<D> {
     ghost use Rattle.command_machine.specs.MadeReply.{command_of, Carries, table_of, CanTell, reply_of, is_up, told_by};
     ghost use Rattle.command_machine.specs.OpenedDesk.{OpenAnswers, Closes, Keeps, Switches};
-    ghost use Rattle.command_machine.specs.DeskSteps.{Leads, LeadsOn, Readies, NextAnswers, IsWritten, IsBooked, GoesThrough, CompleteAnswers, IsFound, IsBatched, part_told, PartSwitches, BatchSwitches, Advances};
+    ghost use Rattle.command_machine.specs.DeskSteps.{Leads, LeadsOn, Readies, IsLearned, NextAnswers, IsWritten, IsBooked, GoesThrough, CompleteAnswers, IsFound, IsBatched, part_told, PartSwitches, BatchSwitches, Advances};
 
     /// Opens the office over its disks, with no job.
     pub fn open(alloc: Global, a: D, b: D, duty: D) -> Result<Desk<D>, (D, D, D, LoneEnd)>
@@ -70,6 +71,7 @@ impl<D: Disk + Drop> Desk<D> {
     {
         match command {
             Command::Ask(ask) => self.answer(ask),
+            Command::Report(report) => self.report(alloc, report),
             Command::File(content) => self.read(alloc, content),
             Command::Edit {
                 editor,
@@ -91,6 +93,7 @@ impl<D: Disk + Drop> Desk<D> {
         ensures can_tell { IfOk result (λ told. IfSome told (CanTell (table_of self.new) self.new.job)) }
         ensures keeps { Keeps D.state self.old self.new }
         ensures job { self.new.job ≡ self.old.job }
+        ensures learned { IsLearned self.new result }
     {
         match self.office.ready() {
             Ok(()) => Ok(None),
@@ -121,6 +124,23 @@ impl<D: Disk + Drop> Desk<D> {
         Ok(Reply::Answer {
             count,
             form: Form::of(self.office.table().row(ask.tn), ask.tn),
+        })
+    }
+
+    // Writes a report.
+    fn report(&mut self, alloc: Global, report: &Report) -> Result<Reply, NoMemory>
+        ensures carries { Carries D.state self.old self.new (commands.Report report.now) result }
+        ensures switches { Switches D.state self.old self.new (commands.Report report.now) result }
+        ensures can_tell { IfOk result (CanTell (table_of self.new) self.new.job) }
+        ensures keeps { Keeps D.state self.old self.new }
+    {
+        if let Some(reply) = self.ready()? {
+            return Ok(reply);
+        }
+        let text = report_text(alloc, self.office.table(), report)?;
+        Ok(Reply::Reported {
+            count: self.office.count(),
+            text,
         })
     }
 
@@ -389,6 +409,7 @@ impl<D: Disk + Drop> Desk<D> {
                 *count,
                 form.bytes().len() as u32,
             ),
+            Reply::Reported { count, text } => report_line(*count, text.len()),
             Reply::Read(read) => read_line(read),
             Reply::Complete(done) => done_line(done),
             Reply::Booked { number, code, .. } => numbers_line(
@@ -414,6 +435,7 @@ impl<D: Disk + Drop> Desk<D> {
                 None => put_all(sink, b""),
             },
             Reply::Answer { form, .. } => put_all(sink, form.bytes()),
+            Reply::Reported { text, .. } => put_all(sink, text),
             Reply::Refused(_)
             | Reply::Read(_)
             | Reply::Complete(_)

@@ -58,6 +58,18 @@ pub(crate) fn numbers_line(word: &[u8], m: u32, n: u32) -> Line
     line
 }
 
+/// `REPORT count len`
+pub(crate) fn report_line(count: u32, len: usize) -> Line
+    ensures { result ≡ numbers_text (codes "REPORT") count len }
+{
+    let mut line = Line::new();
+    line.add_word(b"REPORT");
+    line.add_number(u64::from(count));
+    line.add_number(len as u64);
+    line.end();
+    line
+}
+
 /// A word and a disk.
 pub(crate) fn disk_line(word: &[u8], disk: DiskName) -> Line
     requires { length word.now ≤ 60 }

@@ -10,6 +10,8 @@ pub enum Reply {
     Refused(Refusal),
     /// The form of the number after so many entries.
     Answer { count: u32, form: Form },
+    /// The text of a report after so many entries.
+    Reported { count: u32, text: Vec<u8> },
     /// A job was read.
     Read(JobRead),
     /// All entries of the job are booked.

@@ -1,5 +1,5 @@
 -- What a disk may be left with stands for a journal over which a run opens a lawful world, and no booked entry is lost.
-use Rattle.std.proofs.Common.{◌≡◌, inl, inr, ℕ, suc, ◌≤◌, List, [], ◌∷◌, take, refl, sym, ◌∙◌, subst, arith}
+use Rattle.std.proofs.Common.{◌≡◌, inl, inr, ℕ, ◌≤◌, List, [], take, refl, sym, ◌∙◌, subst, arith}
 use Rattle.ali_base.specs.declared.duty.Duty.{Duty}
 use Rattle.ali_base.specs.declared.names.NodeName.{NodeName}
 use Rattle.ali_base.specs.declared.names.NodeName.TheVariants.{A, B}

@@ -2,8 +2,8 @@
 use Rattle.std.proofs.Common.{◌≡◌, ℕ, List, length, refl, ap, sym, ◌∙◌, subst, arith, Option, Some, option_and_then, codes}
 use Rattle.std.proofs.lemmas.Option.{some_pair_parts}
 use Rattle.ali_base.proofs.Steps.{bind_ok}
-use Rattle.command_machine.specs.Commands.{Command, Ask, File, Edit, Next, Batch, Stop, Start, IsCommand}
-use Rattle.command_machine.specs.CommandText.{ask_text, file_text, edit_text, stop_text, start_text, IsEditLine, SpellsLine}
+use Rattle.command_machine.specs.Commands.{Command, Ask, Report, File, Edit, Next, Batch, Stop, Start, IsCommand}
+use Rattle.command_machine.specs.CommandText.{ask_text, report_command_text, file_text, edit_text, stop_text, start_text, IsEditLine, SpellsLine}
 use Rattle.command_machine.specs.LineReading.{line_of}
 use Rattle.command_machine.specs.declared.command_line.CommandLine.{CommandLine}
 use Rattle.command_machine.specs.declared.command_line.CommandLine.TheVariants as line
@@ -23,6 +23,7 @@ command_at-line bytes text rest l is first =
 command_at-spelled : (bytes : List ℕ) (c : Command) (rest : List ℕ) → IsCommand c → Spelled bytes c rest → command_at bytes ≡ Some (c, rest)
 command_at-spelled bytes (Ask p tn since) rest h is =
     command_at-line bytes (ask_text p tn since) rest (line.Ask (record { position = p; tn = tn; since = since })) (h, refl) is
+command_at-spelled bytes (Report report) rest h is = command_at-line bytes (report_command_text report) rest (line.Report report) (h, refl) is
 command_at-spelled bytes (File content) rest h is =
     command_at-line bytes (file_text (length content)) is.0 (line.File (length content)) (h, refl) is.1 ∙ content_at-begins is.0 content rest is.2
 command_at-spelled bytes (Edit editor serial edit) rest h is =
@@ -41,6 +42,8 @@ same_begins bytes c d left rest same h =
 begins-line : (bytes text left : List ℕ) (l : CommandLine) (c : Command) (rest : List ℕ) → BeginsLine bytes text left → SpellsLine text l → command_of_line left l ≡ Some (c, rest) → BeginsWith bytes c rest
 begins-line bytes text left (line.Ask ask) c rest first is h =
     same_begins bytes (Ask ask.position ask.tn ask.since) c left rest h (record { lawful = is.0; spelled = subst (λ z. BeginsLine bytes z left) is.1 first })
+begins-line bytes text left (line.Report report) c rest first is h =
+    same_begins bytes (Report report) c left rest h (record { lawful = is.0; spelled = subst (λ z. BeginsLine bytes z left) is.1 first })
 begins-line bytes text left (line.File len) c rest first is h =
     let file = begins-content_at len left c rest h in
     let spelled = is.1 ∙ ap file_text (sym file.1) in

@@ -2,8 +2,8 @@
 use Rattle.std.proofs.Common.{◌≡◌, ℕ, List, [], ◌∷◌, ◌++◌, length, None, codes, arith, refl, ap, sym, ◌∙◌, subst}
 use Rattle.std.proofs.lemmas.Option.{some_pair_parts}
 use Rattle.office_run.specs.ScriptGrammar.{BeginsWith, Reads, IsScript, StopsAfter}
-use Rattle.command_machine.specs.CommandText.{ask_text, file_text, edit_text, stop_text, start_text}
-use Rattle.command_machine.specs.Commands.{Command, Ask, File, Edit, Next, Batch, Stop, Start}
+use Rattle.command_machine.specs.CommandText.{ask_text, report_command_text, file_text, edit_text, stop_text, start_text}
+use Rattle.command_machine.specs.Commands.{Command, Ask, Report, File, Edit, Next, Batch, Stop, Start}
 use Rattle.office_run.specs.ScriptReading.{command_at}
 use Rattle.office_run.proofs.CommandTexts.{command_at-begins}
 use Rattle.office_run.proofs.LineTexts.{line_size}
@@ -11,6 +11,7 @@ use Rattle.office_run.proofs.LineTexts.{line_size}
 -- nothing begins with a command where there is nothing
 no_command : (command : Command) (rest : List ℕ) → BeginsWith [] command rest → ⊥
 no_command (Ask position tn since) rest h = omega (arith, line_size [] (ask_text position tn since) rest h.spelled)
+no_command (Report report) rest h = omega (arith, line_size [] (report_command_text report) rest h.spelled)
 no_command (File content) rest h = omega (arith, line_size [] (file_text (length content)) h.spelled.0 h.spelled.1)
 no_command (Edit editor serial edit) rest h = omega (arith, line_size [] (edit_text editor serial h.spelled.0) rest h.spelled.2)
 no_command Next rest h = omega (arith, line_size [] (codes "NEXT") rest h.spelled)

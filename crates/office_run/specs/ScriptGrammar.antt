@@ -1,8 +1,8 @@
 -- The grammar of scripts: a list of commands, each by its text.
 use Rattle.std.specs.Prelude.{◌≡◌, ◌≢◌, ◌⊎◌, ℕ, List, [], ◌∷◌, ◌++◌, length, codes}
 use Rattle.office_entry.specs.EditText.{IsEditText}
-use Rattle.command_machine.specs.Commands.{Command, Ask, File, Edit, Next, Batch, Stop, Start, IsCommand}
-use Rattle.command_machine.specs.CommandText.{ask_text, file_text, edit_text, stop_text, start_text}
+use Rattle.command_machine.specs.Commands.{Command, Ask, Report, File, Edit, Next, Batch, Stop, Start, IsCommand}
+use Rattle.command_machine.specs.CommandText.{ask_text, report_command_text, file_text, edit_text, stop_text, start_text}
 
 -- the bytes are the end of a line, which may be missing at the end of the bytes; rest is what is left
 abbrev pub LineEnds : List ℕ → List ℕ → Type 0
@@ -15,6 +15,7 @@ BeginsLine bytes text rest = (tail : List ℕ) × (bytes ≡ text ++ tail) × Li
 -- the bytes begin with the text of a command: one line, which for a file has its length and is followed by its bytes and the end of a line
 abbrev pub Spelled : List ℕ → Command → List ℕ → Type 0
 Spelled bytes (Ask position tn since) rest = BeginsLine bytes (ask_text position tn since) rest
+Spelled bytes (Report report) rest = BeginsLine bytes (report_command_text report) rest
 Spelled bytes (File content) rest = (left : List ℕ) × BeginsLine bytes (file_text (length content)) left × BeginsLine left content rest
 Spelled bytes (Edit editor serial edit) rest = (text : List ℕ) × IsEditText text edit × BeginsLine bytes (edit_text editor serial text) rest
 Spelled bytes Next rest = BeginsLine bytes (codes "NEXT") rest

@@ -2,7 +2,7 @@
 use Rattle.std.specs.Prelude.{ℕ, ◌==◌, nat_lt, List, [], ◌∷◌, length, take, drop, Option, Some, None, unwrap_or, if◌then◌else◌}
 use Rattle.ali_base.specs.Steps.{◌>>=◌, when}
 use Rattle.text_line.specs.WordReading.{split_once}
-use Rattle.command_machine.specs.Commands.{Command, Ask, File, Edit, Next, Batch, Stop, Start}
+use Rattle.command_machine.specs.Commands.{Command, Ask, Report, File, Edit, Next, Batch, Stop, Start}
 use Rattle.command_machine.specs.LineReading.{line_of}
 use Rattle.command_machine.specs.declared.command_line.CommandLine.{CommandLine}
 use Rattle.command_machine.specs.declared.command_line.CommandLine.TheVariants as line
@@ -23,6 +23,7 @@ content_at len bytes = if nat_lt (length bytes) len then None else ended (take l
 -- the command of a first line, and what is left after it
 abbrev pub command_of_line : List ℕ → CommandLine → Option (Command × List ℕ)
 command_of_line rest (line.Ask ask) = Some (Ask ask.position ask.tn ask.since, rest)
+command_of_line rest (line.Report report) = Some (Report report, rest)
 command_of_line rest (line.File len) = content_at len rest
 command_of_line rest (line.Edit editor serial edit) = Some (Edit editor serial edit, rest)
 command_of_line rest line.Next = Some (Next, rest)

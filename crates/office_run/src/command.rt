@@ -27,6 +27,7 @@ fn command_of_line<'a>(rest: &'a [u8], line: &CommandLine) -> Option<(Command<'a
 {
     match line {
         CommandLine::Ask(ask) => Some((Command::Ask(*ask), rest)),
+        CommandLine::Report(report) => Some((Command::Report(*report), rest)),
         CommandLine::File(len) => {
             let (content, rest) = content_at(*len as usize, rest)?;
             Some((Command::File(content), rest))

@@ -203,6 +203,11 @@ fn add_told(alloc: Global, told: &mut Vec<u8>, file: &SmallFile, booked: usize) 
     Ok(())
 }
 
+const WHILE_UNLOCKED: &[u8] = b"REPORT 5 105
+tn,company,state,esn,house,street,community,days
+3035550100,ABC01,UNLOCKED,00101,100,MAIN ST,DENVER CO,1
+";
+
 const MOVED: &[u8] = b"ANSWER 9 107
 TN 3035550100 CLASS 1 TYPE 0
 NAME JOHN SMITH
@@ -210,10 +215,12 @@ ADDR 100 MAIN ST
 CITY DENVER CO
 LOC
 ESN 00101 CO XYZ02 LOCKED
+REPORT 9 49
+tn,company,state,esn,house,street,community,days
 ";
 
 // A number moves from a donor company to a recipient company, and what either may do to it before and
-// after.
+// after. It is among the unlocked numbers until it has moved.
 #[test]
 fn a_number_moves(rt: HostRuntime) -> Result<(), Fail> {
     let files = [
@@ -238,8 +245,12 @@ fn a_number_moves(rt: HostRuntime) -> Result<(), Fail> {
     for (i, file) in files.iter().enumerate() {
         add_small_file(rt.alloc(), &mut script, file)?;
         add_told(rt.alloc(), &mut expected, file, 2 * i + 1)?;
+        if i == 1 {
+            script.extend_from_slice(b"REPORT a UNLOCKED 010324\n")?;
+            expected.extend_from_slice(WHILE_UNLOCKED)?;
+        }
         if i == 3 {
-            script.extend_from_slice(b"ASK a 1 3035550100 9\n")?;
+            script.extend_from_slice(b"ASK a 1 3035550100 9\nREPORT a UNLOCKED 010324\n")?;
             expected.extend_from_slice(MOVED)?;
         }
     }
@@ -385,10 +396,21 @@ ADDR 100 MAIN ST
 CITY DENVER CO
 LOC
 ESN 00101 CO ABC01 LOCKED
+REPORT 5 96
+name,value
+entries,5
+opens,1
+lines,3
+edits,1
+numbers,3
+unlocked,0
+ranges,1
+companies,1
+code 0,4
 ";
 
 // A file whose records are lines, with coordinates in columns that are not read. None is refused, so the
-// error file has two lines, and their ends.
+// error file has two lines, and their ends. The statistics then count all that was booked.
 #[test]
 fn a_file_of_lines(rt: HostRuntime) -> Result<(), Fail> {
     let mut first = at_house(b'0', b"100   ");
@@ -399,7 +421,7 @@ fn a_file_of_lines(rt: HostRuntime) -> Result<(), Fail> {
     let mut script = STREET.to_vec(rt.alloc())?;
     script.extend_from_slice(b"FILE 2570\n")?;
     script.extend_from_slice(&lines(rt.alloc(), &file)?)?;
-    script.extend_from_slice(b"\nBATCH\nASK a 1 3035550100 5\n")?;
+    script.extend_from_slice(b"\nBATCH\nASK a 1 3035550100 5\nREPORT a STATS\n")?;
     let ended = run(rt.alloc(), &script, &[], &[])?;
     let mut expected = STREET_MADE.to_vec(rt.alloc())?;
     expected.extend_from_slice(LINES_BOOKED)?;

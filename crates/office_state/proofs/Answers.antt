@@ -14,7 +14,7 @@ use Rattle.office_state.proofs.Histories.{represents_more}
 -- an entry that is booked goes behind the history
 kept : (old new : OfficeState) (e : Entry) (v : Verdict) → IsBooked old new e v → KeepsHistory old new (e ∷ [])
 kept old new e v is = λ limits history before.
-    represents_more limits old new history e before is.entry is.due (ap (λ (o : OfficeState). o.state) is.office) (ap (λ (o : OfficeState). o.entries) is.office)
+    represents_more limits old new history e before is.entry is.due is.office
 
 -- clause by clause
 pub record Says (old new : OfficeState) (e : Entry) (r : Result Verdict ApplyFault) : Type 0 where

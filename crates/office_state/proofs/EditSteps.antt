@@ -16,6 +16,8 @@ use Rattle.office_entry.specs.EditBytes.{edit_digest}
 use Rattle.office_entry.specs.declared.entry.Entry.TheVariants.{Edit as Edited}
 use Rattle.sequence_once.specs.KeptCycles.{CyclesState}
 use Rattle.sequence_once.specs.SerialStanding.{EditRecord, after_serial}
+use Rattle.office_state.specs.declared.counts.Counts.{Counts}
+use Rattle.office_state.specs.Counted.{counted}
 use Rattle.office_state.specs.OfficeState.{office_of, without_spare}
 use Rattle.office_state.specs.Booked.{with_entry}
 use Rattle.office_state.specs.Verdict.{after}
@@ -63,13 +65,14 @@ module _ (edit : Edit) (g h : StreetGuide) (rows later : NumberTable) (v : EditV
       ] refl
 
 -- an edit that was carried out and noted is booked
-pub edit_booked : (g h : StreetGuide) (rows later : NumberTable) (most entries : ℕ) (cycles : CyclesState) (edits noted : List (Option EditRecord)) (editor serial : ℕ) (edit : Edit) (digest : List ℕ) (v : EditVerdict)
-    → IsAnswered edit g h rows later v → digest ≡ edit_digest edit → noted ≡ after_serial edits editor serial digest v.code v.detail
-    → office_of later most h cycles noted (entries + 1) ≡ with_entry (office_of rows most g cycles edits entries) (Edited editor serial edit)
+pub edit_booked : (g h : StreetGuide) (rows later : NumberTable) (most entries : ℕ) (cycles : CyclesState) (edits noted : List (Option EditRecord)) (editor serial : ℕ) (edit : Edit) (digest : List ℕ) (v : EditVerdict) (counts new_counts : Counts)
+    → IsAnswered edit g h rows later v → digest ≡ edit_digest edit → noted ≡ after_serial edits editor serial digest v.code v.detail → new_counts ≡ counted counts (Edited editor serial edit) v.code
+    → office_of later most h cycles noted (entries + 1) new_counts ≡ with_entry (office_of rows most g cycles edits entries counts) (Edited editor serial edit)
 unfolding after
-edit_booked g h rows later most entries cycles edits noted editor serial edit digest v left of_edit note =
+edit_booked g h rows later most entries cycles edits noted editor serial edit digest v counts new_counts left of_edit note counting =
     let verdict : v ≡ edit_verdict (without_spare g) rows edit = left.verdict ∙ sym (same_verdict g rows edit) in
     let new_guide = left_guide edit g h rows later v left ∙ ap (λ (w : EditVerdict). guide_after (without_spare g) edit w.code) verdict in
     let new_rows = left_rows edit g h rows later v left ∙ ap (λ (w : EditVerdict). rows_after (without_spare g) rows edit w.code) verdict in
     let new_edits = note ∙ ap (λ d. after_serial edits editor serial d v.code v.detail) of_edit ∙ ap (λ (w : EditVerdict). after_serial edits editor serial (edit_digest edit) w.code w.detail) verdict in
-    λ i. record { state = record { table = new_rows i; most_numbers = most; guide = new_guide i; cycles = cycles; edits = new_edits i }; entries = entries + 1 }
+    let new_counting = counting ∙ ap (λ (w : EditVerdict). counted counts (Edited editor serial edit) w.code) verdict in
+    λ i. record { state = record { table = new_rows i; most_numbers = most; guide = new_guide i; cycles = cycles; edits = new_edits i }; entries = entries + 1; counts = new_counting i }

@@ -1,5 +1,5 @@
 -- Legal histories, entry by entry.
-use Rattle.std.proofs.Common.{◌≡◌, ◌+◌, List, [], ◌∷◌, ◌++◌, length-append, ap, sym, ◌∙◌, subst, arith}
+use Rattle.std.proofs.Common.{◌≡◌, List, [], ◌∷◌, ◌++◌, length-append, ap, sym, ◌∙◌, subst, arith}
 use Rattle.std.specs.List.{fold}
 use Rattle.std.proofs.lemmas.List.Sums.{fold-append}
 use Rattle.sequence_once.specs.KeptCycles.{IsSound}
@@ -8,9 +8,14 @@ use Rattle.office_entry.specs.Entries.{IsEntry}
 use Rattle.office_entry.specs.declared.entry.Entry.{Entry}
 use Rattle.office_state.specs.declared.limits.Limits.{Limits}
 use Rattle.office_state.specs.OfficeState.{State, OfficeState, empty_state}
+use Rattle.office_state.specs.declared.counts.Counts.{Counts}
+use Rattle.office_state.specs.Booked.{with_entry}
+use Rattle.office_state.specs.Counted.{counted}
 use Rattle.office_state.specs.Due.{IsDue}
-use Rattle.office_state.specs.Verdict.{after}
+use Rattle.office_state.specs.Tallies.{AreCounts}
+use Rattle.office_state.specs.Verdict.{verdict, after}
 use Rattle.office_state.specs.History.{AreDue, IsLegal, Represents, state}
+use Rattle.office_state.proofs.Counting.{counts_more}
 use Rattle.office_state.proofs.Steps.{sound_after}
 
 -- the entries of two lists are due where those of the second are due after the first
@@ -42,11 +47,14 @@ pub sound_legal : (limits : Limits) (history : List Entry) → IsLegal limits hi
 sound_legal limits history legal = sound_fold (empty_state limits) history (sound_empty limits.companies) legal
 
 -- one entry more
-pub represents_more : (limits : Limits) (old new : OfficeState) (history : List Entry) (e : Entry) → Represents limits old history → IsEntry e → IsDue old.state e → new.state ≡ after old.state e → new.entries ≡ old.entries + 1 → Represents limits new (history ++ e ∷ [])
-represents_more limits old new history e before entry due same more =
+pub represents_more : (limits : Limits) (old new : OfficeState) (history : List Entry) (e : Entry) → Represents limits old history → IsEntry e → IsDue old.state e → new ≡ with_entry old e → Represents limits new (history ++ e ∷ [])
+represents_more limits old new history e before entry due more =
     let due_then : IsDue (state limits history) e = subst (λ (s : State). IsDue s e) before.same due in
     record {
       legal = due_both (empty_state limits) history (e ∷ []) before.legal (entry, due_then, tt);
-      same = same ∙ ap (λ (s : State). after s e) before.same ∙ sym (state_more limits history (e ∷ []));
-      entries = omega (arith, more, before.entries, length-append history (e ∷ []));
+      same = ap (λ (o : OfficeState). o.state) more ∙ ap (λ (s : State). after s e) before.same ∙ sym (state_more limits history (e ∷ []));
+      entries = omega (arith, ap (λ (o : OfficeState). o.entries) more, before.entries, length-append history (e ∷ []));
+      counts = subst (λ (c : Counts). AreCounts limits (history ++ e ∷ []) c)
+          (sym (ap (λ (o : OfficeState). o.counts) more ∙ ap (λ (s : State). counted old.counts e (verdict s e).code) before.same))
+          (counts_more limits history e old.counts before.counts);
     }

@@ -1,4 +1,7 @@
 pub mod Steps
+pub mod SmallCodes
+pub mod Counting
+pub mod Tallying
 pub mod Histories
 pub mod Answers
 pub mod Dues
@@ -8,4 +11,6 @@ pub mod KeptCodes
 pub mod SoundHistories
 pub mod EditSteps
 pub mod SoundOffices
+pub mod EmptyOffices
+pub mod HighCodes
 pub mod Changes

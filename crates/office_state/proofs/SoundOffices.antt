@@ -12,10 +12,13 @@ use Rattle.office_entry.specs.declared.edit.Edit.{Edit as GuideEdit}
 use Rattle.office_entry.specs.declared.entry.Entry.{Entry}
 use Rattle.office_entry.specs.declared.entry.Entry.TheVariants.{Open, Line, Edit}
 use Rattle.office_state.specs.declared.limits.Limits.{Limits}
-use Rattle.office_state.specs.OfficeState.{State, office_of, without_spare, empty_guide, empty_state, limits_of}
+use Rattle.office_state.specs.declared.counts.Counts.{Counts}
+use Rattle.office_state.specs.Counted.{no_counts, AreSoundCounts}
+use Rattle.office_state.specs.OfficeState.{State, office_of, without_spare, empty_guide, empty_state, empty_office, limits_of}
 use Rattle.office_state.specs.Soundness.{IsSoundOffice}
 use Rattle.office_state.specs.Verdict.{after}
 use Rattle.office_state.specs.History.{state}
+use Rattle.office_state.proofs.Counting.{sound_none}
 use Rattle.office_state.proofs.EditSteps.{left_next}
 use Rattle.office_state.proofs.SoundHistories.{sound_nothing}
 
@@ -27,29 +30,30 @@ pub sound_full : (g : StreetGuide) (rows : NumberTable) → AreSound (without_sp
 sound_full g rows h = record { ends = h.ends; numbers = h.numbers; different = h.different; known = h.known; apart = h.apart; placed = h.placed }
 
 -- an office without ranges and rows is sound
-pub sound_empty : (g : StreetGuide) (table : NumberTable) (most limit : ℕ) (cycles : CyclesState) (edits : List (Option EditRecord)) → without_spare g ≡ empty_guide limit → table ≡ no_numbers
-    → IsSoundOffice (office_of table most g cycles edits 0)
-sound_empty g table most limit cycles edits guide none = record {
+pub sound_empty : (g : StreetGuide) (table : NumberTable) (most limit : ℕ) (cycles : CyclesState) (edits : List (Option EditRecord)) (counts : Counts) → without_spare g ≡ empty_guide limit → table ≡ no_numbers → counts ≡ no_counts
+    → IsSoundOffice (office_of table most g cycles edits 0 counts)
+sound_empty g table most limit cycles edits counts guide none nothing = record {
   sound = subst (λ (t : NumberTable). AreSound (without_spare g) t) (sym none) (subst (λ (h : StreetGuide). AreSound h no_numbers) (sym guide) (sound_nothing limit));
   ids = omega (arith, ap (λ (h : StreetGuide). h.next) guide);
+  counts = subst (λ (c : Counts). AreSoundCounts c 0) (sym nothing) sound_none;
 }
 
 -- all that is forgotten leaves the empty state
-pub emptied : (g : StreetGuide) (table : NumberTable) (most limit : ℕ) (cycles : CyclesState) (edits : List (Option EditRecord)) (companies : ℕ) → without_spare g ≡ empty_guide limit → table ≡ no_numbers
-    → cycles ≡ record { kept = []; limit = companies } → edits ≡ no_edits
-    → office_of table most g cycles edits 0 ≡ record { state = empty_state (record { companies = companies; numbers = most; ranges = limit }); entries = 0 }
-emptied g table most limit cycles edits companies guide none no_cycles no_edit =
-    λ i. record { state = record { table = none i; most_numbers = most; guide = guide i; cycles = no_cycles i; edits = no_edit i }; entries = 0 }
+pub emptied : (g : StreetGuide) (table : NumberTable) (most limit : ℕ) (cycles : CyclesState) (edits : List (Option EditRecord)) (counts : Counts) (companies : ℕ) → without_spare g ≡ empty_guide limit → table ≡ no_numbers
+    → cycles ≡ record { kept = []; limit = companies } → edits ≡ no_edits → counts ≡ no_counts
+    → office_of table most g cycles edits 0 counts ≡ empty_office (record { companies = companies; numbers = most; ranges = limit })
+emptied g table most limit cycles edits counts companies guide none no_cycles no_edit nothing =
+    λ i. record { state = record { table = none i; most_numbers = most; guide = guide i; cycles = no_cycles i; edits = no_edit i }; entries = 0; counts = nothing i }
 
 -- a line keeps guide and rows sound
-pub sound_lined : (g : StreetGuide) (rows later : NumberTable) (most entries : ℕ) (cycles : CyclesState) (edits : List (Option EditRecord)) (old : CyclesState)
-    → AreSound g later → IsSoundOffice (office_of rows most g old edits entries) → IsSoundOffice (office_of later most g cycles edits (entries + 1))
-sound_lined g rows later most entries cycles edits old sound was = record { sound = sound_bare g later sound; ids = omega (arith, was.ids) }
+pub sound_lined : (g : StreetGuide) (rows later : NumberTable) (most entries : ℕ) (cycles : CyclesState) (edits : List (Option EditRecord)) (old : CyclesState) (counts new_counts : Counts)
+    → AreSound g later → AreSoundCounts new_counts (entries + 1) → IsSoundOffice (office_of rows most g old edits entries counts) → IsSoundOffice (office_of later most g cycles edits (entries + 1) new_counts)
+sound_lined g rows later most entries cycles edits old counts new_counts sound counting was = record { sound = sound_bare g later sound; ids = omega (arith, was.ids); counts = counting }
 
 -- an edit keeps guide and rows sound, and makes one range at most
-pub sound_edited : (g h : StreetGuide) (rows later : NumberTable) (edit : GuideEdit) (v : EditVerdict) (most entries : ℕ) (cycles : CyclesState) (edits : List (Option EditRecord)) → IsAnswered edit g h rows later v
-    → AreSound h later → g.next ≤ entries + 1 → IsSoundOffice (office_of later most h cycles edits (entries + 1))
-sound_edited g h rows later edit v most entries cycles edits left sound ids = record { sound = sound_bare h later sound; ids = omega (arith, ids, left_next edit g h rows later v left) }
+pub sound_edited : (g h : StreetGuide) (rows later : NumberTable) (edit : GuideEdit) (v : EditVerdict) (most entries : ℕ) (cycles : CyclesState) (edits : List (Option EditRecord)) (counts : Counts) → IsAnswered edit g h rows later v
+    → AreSound h later → g.next ≤ entries + 1 → AreSoundCounts counts (entries + 1) → IsSoundOffice (office_of later most h cycles edits (entries + 1) counts)
+sound_edited g h rows later edit v most entries cycles edits counts left sound ids counting = record { sound = sound_bare h later sound; ids = omega (arith, ids, left_next edit g h rows later v left); counts = counting }
 
 -- an entry leaves the limits
 limits_after : (s : State) (e : Entry) → limits_of (after s e) ≡ limits_of s

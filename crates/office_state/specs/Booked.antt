@@ -4,14 +4,19 @@ use Rattle.office_entry.specs.Entries.{IsEntry}
 use Rattle.office_entry.specs.declared.entry.Entry.{Entry}
 use Rattle.office_state.specs.declared.apply_fault.ApplyFault.{ApplyFault}
 use Rattle.office_state.specs.declared.verdict.Verdict.{Verdict}
+use Rattle.office_state.specs.Counted.{counted}
 use Rattle.office_state.specs.OfficeState.{OfficeState}
 use Rattle.office_state.specs.Due.{IsDue}
 use Rattle.office_state.specs.Refusals.{IsRefused}
 use Rattle.office_state.specs.Verdict.{verdict, after}
 
--- the office with an entry more
+-- the office with an entry more, which is counted by its code
 abbrev pub with_entry : OfficeState → Entry → OfficeState
-with_entry office e = record { state = after office.state e; entries = office.entries + 1 }
+with_entry office e = record {
+  state = after office.state e;
+  entries = office.entries + 1;
+  counts = counted office.counts e (verdict office.state e).code;
+}
 
 -- the entry was due and is booked, with this verdict
 pub record IsBooked (old new : OfficeState) (e : Entry) (v : Verdict) : Type 0 where

@@ -1,5 +1,5 @@
 -- The booked history: the entries that the office accepted into its order, with the refused ones among them.
-use Rattle.std.specs.Prelude.{◌≡◌, List, [], ◌∷◌, ◌++◌, length, fold}
+use Rattle.std.specs.Prelude.{◌≡◌, List, [], ◌∷◌, ◌++◌, length}
 use Rattle.office_entry.specs.declared.entry.Entry.{Entry}
 use Rattle.office_entry.specs.declared.entry.Entry.TheVariants.{Open, Line, Edit}
 use Rattle.office_entry.specs.Entries.{IsEntry}
@@ -7,10 +7,8 @@ use Rattle.office_state.specs.declared.limits.Limits.{Limits}
 use Rattle.office_state.specs.OfficeState.{State, OfficeState, empty_state}
 use Rattle.office_state.specs.Due.{IsDue}
 use Rattle.office_state.specs.Verdict.{after}
-
--- the state after all of a history
-abbrev pub state : Limits → List Entry → State
-state limits history = fold after (empty_state limits) history
+use Rattle.office_state.specs.Tallies.{AreCounts}
+pub use Rattle.office_state.specs.States.{state}
 
 -- each of these entries, one after the other, may be booked next
 abbrev pub AreDue : State → List Entry → Type 0
@@ -33,11 +31,12 @@ Repeats (Line c n line bytes) (Edit d m edit) = ⊥
 Repeats (Edit c n edit) (Open d m count day digest) = ⊥
 Repeats (Edit c n edit) (Line d m line bytes) = ⊥
 
--- the office is the one after this history, which is legal
+-- the office is the one after this history, which is legal, and its counts are those of the history
 pub record Represents (limits : Limits) (office : OfficeState) (history : List Entry) : Type 0 where
   pub legal : IsLegal limits history
   pub same : office.state ≡ state limits history
   pub entries : office.entries ≡ length history
+  pub counts : AreCounts limits history office.counts
 
 -- each history that the old office represents, the new one represents with these entries behind it
 abbrev pub KeepsHistory : OfficeState → OfficeState → List Entry → Type 0

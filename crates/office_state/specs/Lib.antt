@@ -1,8 +1,11 @@
 pub mod OfficeState
+pub mod Counted
 pub mod StoredState
 pub mod Soundness
 pub mod Due
 pub mod Verdict
+pub mod States
+pub mod Tallies
 pub mod History
 pub mod Refusals
 pub mod EditReaders

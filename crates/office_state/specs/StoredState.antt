@@ -9,6 +9,7 @@ use Rattle.ali_base.specs.declared.street_key.StreetKey.{StreetKey}
 use Rattle.sequence_once.specs.KeptCycles.{CycleRecord, CyclesState}
 use Rattle.sequence_once.specs.SerialStanding.{EditRecord}
 use Rattle.number_table.specs.NumberTable.{NumberTable, coded_table}
+use Rattle.office_state.specs.declared.counts.Counts.{Counts}
 use Rattle.office_state.specs.OfficeState.{State, OfficeState}
 
 abbrev pub coded_bytes : Coded (List ℕ)
@@ -67,5 +68,12 @@ coded_state =
     code_by (NumberTable × (ℕ × (StreetGuide × (CyclesState × List (Option EditRecord))))) (coded× coded_table (coded× coded_ℕ (coded× coded_guide (coded× coded_cycles (coded_list (coded_option coded_edit))))))
     (λ s. (s.table, (s.most_numbers, (s.guide, (s.cycles, s.edits))))) (λ p. record { table = p.0; most_numbers = p.1.0; guide = p.1.1.0; cycles = p.1.1.1.0; edits = p.1.1.1.1 }) (λ _. refl)
 
+abbrev pub coded_counts : Coded Counts
+coded_counts =
+    code_by (ℕ × (ℕ × (ℕ × List ℕ))) (coded× coded_ℕ (coded× coded_ℕ (coded× coded_ℕ coded_bytes)))
+    (λ c. (c.opens, (c.lines, (c.edits, c.codes)))) (λ p. record { opens = p.0; lines = p.1.0; edits = p.1.1.0; codes = p.1.1.1 }) (λ _. refl)
+
 abbrev pub coded_office : Coded OfficeState
-coded_office = code_by (State × ℕ) (coded× coded_state coded_ℕ) (λ o. (o.state, o.entries)) (λ p. record { state = p.0; entries = p.1 }) (λ _. refl)
+coded_office =
+    code_by (State × (ℕ × Counts)) (coded× coded_state (coded× coded_ℕ coded_counts))
+    (λ o. (o.state, (o.entries, o.counts))) (λ p. record { state = p.0; entries = p.1.0; counts = p.1.1 }) (λ _. refl)

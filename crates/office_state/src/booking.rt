@@ -140,6 +140,7 @@ impl Office {
     {
         self.cycles.open(self.alloc, company, cycle, count, digest)?;
         self.entries += 1;
+        self.counts.count_opening();
         Ok(())
     }
 
@@ -163,6 +164,7 @@ impl Office {
         )?;
         self.cycles.note(company, code);
         self.entries += 1;
+        self.counts.count_line(code);
         Ok(code)
     }
 
@@ -194,6 +196,7 @@ impl Office {
             done.detail,
         );
         self.entries += 1;
+        self.counts.count_edit(done.code);
         Ok(Verdict {
             code: done.code,
             detail: done.detail,

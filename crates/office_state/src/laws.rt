@@ -18,8 +18,10 @@ ghost use Rattle.office_state.specs.declared.limits.Limits.{Limits};
 ghost use Rattle.office_state.specs.History.{IsLegal, Repeats, state};
 ghost use Rattle.office_state.specs.OfficeState.{State};
 ghost use Rattle.office_state.specs.Unlocks.{IsOwnersUnlock};
-ghost use Rattle.office_state.specs.Verdict.{after};
+ghost use Rattle.office_state.specs.Tallies.{times_of};
+ghost use Rattle.office_state.specs.Verdict.{verdict, after};
 
+use crate::counts::CODES;
 use crate::office::MOST_ENTRIES;
 
 /// In a legal history no cycle of a company is opened twice, no line of a cycle is booked twice, and no
@@ -129,6 +131,13 @@ pub fn ids_are_never_used_again()
         → id < (state limits history).guide.next
         → range_of (state limits history).guide.ranges id ≡ None
         → range_of (state limits (history ++ more)).guide.ranges id ≡ None }
+{}
+
+/// Each entry gets a code below 1000. So no line or edit of a history has a higher one.
+pub fn codes_are_below_1000()
+    ensures each { (s : State) (e : Entry) → (verdict s e).code < CODES }
+    ensures history { (limits : Limits) (history : List Entry) (code : ℕ)
+        → CODES ≤ code → times_of limits history code ≡ 0 }
 {}
 
 /// An office applies at most 4,000,000,000 entries.

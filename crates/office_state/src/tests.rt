@@ -1,6 +1,6 @@
 //! Offices with small limits, against answers that were written down apart from them.
 
-use crate::{ApplyFault, DueFault, Limits, Office, Verdict};
+use crate::{ApplyFault, DueFault, Limits, Office, Tally, Verdict};
 use ali_base::{Company, Cycle, Day, Editor, Serial, Tn};
 use office_entry::{Edit, Entry};
 use office_fixtures::{SentRecord, put};
@@ -123,6 +123,76 @@ fn a_cycle_is_booked_line_by_line(rt: HostRuntime) -> Result<(), Fail> {
     office.clear();
     assert_eq!(rt; office.entries(), 0);
     assert!(rt; office.row(tn).is_none());
+    Ok(())
+}
+
+// The entries of a cycle of two lines that makes a number and unlocks it, and the edit before it.
+fn made_and_unlocked(abc: Company, one: Cycle, day: Day) -> Option<[Entry; 4]> {
+    let unlock = SentRecord::new(b'U', b"3035550100", b"");
+    Some([
+        main_street()?,
+        opening(abc, one, 2, day),
+        line(abc, one, 1, &record(b"3035550100", b"ABC01")),
+        line(abc, one, 2, &unlock.bytes()),
+    ])
+}
+
+// How many entries, openings, lines and edits a tally has.
+fn booked_of(tally: &Tally) -> [u32; 4] {
+    [tally.entries, tally.opens, tally.lines, tally.edits]
+}
+
+// How many numbers, unlocked numbers, ranges and companies a tally has.
+fn held_of(tally: &Tally) -> [u32; 4] {
+    [tally.numbers, tally.unlocked, tally.ranges, tally.companies]
+}
+
+// Openings, lines and edits are counted each for themselves; of the codes those of lines and edits, the
+// refused ones too. What is not booked is not counted, and nothing is once all is forgotten.
+#[test]
+fn what_is_booked_is_counted(rt: HostRuntime) -> Result<(), Fail> {
+    let abc = Company::read(b"ABC01").expect(&rt, "a company");
+    let one = Cycle::new(1).expect(&rt, "a cycle");
+    let day = Day::read(b"010224").expect(&rt, "a day");
+    let mut office = Office::new(rt.alloc(), Limits::office())?;
+    let street = main_street().expect(&rt, "an edit");
+    let [open, first, second, third] = cycle(abc, one, day);
+    assert!(rt; office.apply(&street).is_ok());
+    assert!(rt; office.apply(&open).is_ok());
+    assert!(rt; office.apply(&first).is_ok());
+    assert!(rt; office.apply(&first).is_err());
+    assert!(rt; office.apply(&second).is_ok());
+    assert!(rt; office.apply(&third).is_ok());
+    let tally = office.tally();
+    assert_eq!(rt; booked_of(&tally), [5, 1, 3, 1]);
+    assert_eq!(rt; held_of(&tally), [1, 0, 1, 1]);
+    assert_eq!(rt; tally.count_of(0), 2);
+    assert_eq!(rt; tally.count_of(301), 1);
+    assert_eq!(rt; tally.count_of(106), 1);
+    assert_eq!(rt; tally.count_of(302), 0);
+    assert_eq!(rt; tally.count_of(1000), 0);
+    office.clear();
+    let tally = office.tally();
+    assert_eq!(rt; booked_of(&tally), [0; 4]);
+    assert_eq!(rt; held_of(&tally), [0; 4]);
+    assert_eq!(rt; tally.count_of(0), 0);
+    Ok(())
+}
+
+// A number that is unlocked stays a number, and is counted among the unlocked ones.
+#[test]
+fn unlocked_numbers_are_counted(rt: HostRuntime) -> Result<(), Fail> {
+    let abc = Company::read(b"ABC01").expect(&rt, "a company");
+    let one = Cycle::new(1).expect(&rt, "a cycle");
+    let day = Day::read(b"010224").expect(&rt, "a day");
+    let mut office = Office::new(rt.alloc(), Limits::office())?;
+    let [street, open, first, unlock] = made_and_unlocked(abc, one, day).expect(&rt, "entries");
+    assert!(rt; office.apply(&street).is_ok());
+    assert!(rt; office.apply(&open).is_ok());
+    assert!(rt; office.apply(&first).is_ok());
+    assert_eq!(rt; held_of(&office.tally()), [1, 0, 1, 1]);
+    assert_eq!(rt; office.apply(&unlock), DONE);
+    assert_eq!(rt; held_of(&office.tally()), [1, 1, 1, 1]);
     Ok(())
 }
 

@@ -22,9 +22,9 @@ use Rattle.node_journal.specs.declared.faults.ReadFault.{ReadFault}
 use Rattle.node_journal.specs.declared.faults.ReadFault.TheVariants as reading
 use Rattle.office_entry.specs.declared.entry.Entry.{Entry}
 use Rattle.office_state.specs.History as history
-use Rattle.office_state.specs.OfficeState.{State, OfficeState, empty_state, limits_of}
+use Rattle.office_state.proofs.EmptyOffices.{forgets}
+use Rattle.office_state.specs.OfficeState.{OfficeState}
 use Rattle.office_state.specs.declared.limits.Limits.{Limits}
-use Rattle.office_state.proofs.SoundOffices.{limits_kept}
 use Rattle.pair_world.specs.Changes.{read_failed, write_failed, journal_stored}
 use Rattle.pair_world.specs.Deliveries.{journal_left, known_left, reply_to}
 use Rattle.pair_world.specs.Frames.{Frame, entries}
@@ -255,11 +255,7 @@ module _ {D : Type 0} (state : D → DiskState) (limits : Limits) (old new : Pai
 
   -- the table, where it is emptied
   emptied : (booked : List Entry) → history.Represents limits (node.office_of (node_of old n)) booked → history.Represents limits (node.emptied (node.office_of (node_of old n))) []
-  emptied booked r = record {
-    legal = tt;
-    same = ap (λ (s : State). empty_state (limits_of s)) r.same ∙ ap empty_state (limits_kept limits booked);
-    entries = refl;
-  }
+  emptied booked r = forgets (node.office_of (node_of old n)) (node.emptied (node.office_of (node_of old n))) refl limits booked r
 
   table_kept : KeepsTable (node_of old n) (node_of new n) → (booked : List Entry) × history.Represents limits (node.office_of (node_of new n)) booked
   table_kept keeps = by_length (split (node.learned_of (node_of old n)) (node.count_of (node_of new n)))

@@ -5,7 +5,7 @@ use Rattle.node_journal.specs.OpenJournal as journal
 use Rattle.node_journal.specs.declared.journal.Journal.{Journal}
 use Rattle.office_entry.specs.declared.entry.Entry.{Entry}
 use Rattle.office_state.specs.History as history
-use Rattle.office_state.specs.OfficeState.{OfficeState, empty_state, limits_of}
+use Rattle.office_state.specs.OfficeState.{OfficeState, empty_office, limits_of}
 use Rattle.office_state.specs.declared.limits.Limits.{Limits}
 use Rattle.pair_world.specs.Frames.{Frame, entries}
 use Rattle.pair_node.specs.declared.node.Node.{Node}
@@ -28,7 +28,7 @@ office_of node = node.office
 
 -- the table without entries, under the same limits
 abbrev pub emptied : OfficeState → OfficeState
-emptied office = record { state = empty_state (limits_of office.state); entries = 0 }
+emptied office = empty_office (limits_of office.state)
 
 -- how many entries its table has learned
 abbrev pub learned_of : {D : Type 0} → Node D → ℕ

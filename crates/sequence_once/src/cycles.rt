@@ -2,7 +2,7 @@
 ghost use Rattle.std.specs.Prelude.{◌≡◌, ◌≢◌, ℕ, List, ◌+◌, ◌-◌, ◌^◌, ◌<◌, ◌≤◌, ◌==◌, [], length, false, find, insert, remove, slice_get, slice_range, option_map, IfOk, OnOk, OnErr, Some, Ok, Err, ◌↔◌, if◌then◌else◌};
 ghost use Rattle.std.specs.List.Sorted.{IsStrictlySortedBy};
 ghost use Rattle.std.specs.Option.{option_copied};
-ghost use Rattle.sequence_once.specs.KeptCycles.{IsSound, OthersStay, of_company, before_company, cycle_order, newest, last_of, is_last_finished, opened, after_open, after_note, codes_of, count_of};
+ghost use Rattle.sequence_once.specs.KeptCycles.{IsSound, OthersStay, of_company, before_company, cycle_order, newest, last_of, is_last_finished, known_companies, opened, after_open, after_note, codes_of, count_of};
 ghost use Rattle.sequence_once.specs.CycleStanding.{IsTooOld, last_number, oldest_number, is_full, repeated, standing_among, standing_of};
 ghost use Rattle.sequence_once.specs.CycleReaders.{last_shown, record_of};
 ghost use Rattle.sequence_once.specs.declared.standing.Standing.TheVariants.{New};
@@ -142,6 +142,13 @@ impl Cycles {
             count: last.count(),
             noted: last.noted(),
         })
+    }
+
+    /// How many companies have a kept cycle.
+    pub fn companies(&self) -> u32
+        ensures { result ≡ known_companies self.now.kept }
+    {
+        self.known
     }
 
     /// The i-th kept cycle, from 0, in the order of company and cycle.

@@ -24,3 +24,10 @@ returns-in-Answer g c =
     let desk = c.args.self.now in
     let told = ap (λ (r : Reply). reply_block (reply_of (table_of desk) desk.job r)) c.in-Answer.is in
     record { put = subst (λ (text : List ℕ). Puts sink.contents sink.faults c.args.sink.now c.put_all-in-Answer.new.sink text c.put_all-in-Answer.result) (c.bytes.ensures.same ∙ sym told) c.put_all-in-Answer.ensures.put }
+
+pub returns-in-Reported : goal.returns-in-Reported
+returns-in-Reported g c =
+    let sink = g.K.Sink in
+    let desk = c.args.self.now in
+    let told = ap (λ (r : Reply). reply_block (reply_of (table_of desk) desk.job r)) c.in-Reported.is in
+    record { put = subst (λ (text : List ℕ). Puts sink.contents sink.faults c.args.sink.now c.put_all-in-Reported.new.sink text c.put_all-in-Reported.result) (c.deref.ensures.value ∙ sym told) c.put_all-in-Reported.ensures.put }

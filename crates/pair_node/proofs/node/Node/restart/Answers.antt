@@ -1,4 +1,4 @@
-use Rattle.std.proofs.Common.{◌≡◌, ◌≢◌, length, refl, sym, ap, subst, ◌∙◌}
+use Rattle.std.proofs.Common.{◌≡◌, ◌≢◌, length, refl, sym, ap, subst, ◌∙◌, arith}
 use Rattle.crash_disk.specs.DiskState.{DiskState}
 use Rattle.node_journal.proofs.Represented.{length-epochs}
 use Rattle.node_journal.specs.OpenJournal as journals
@@ -69,6 +69,27 @@ returns-then-have-need g c =
         refl,
         refl,
       );
+      forgotten = record {
+        fixed = c.in-Ok.ensures.fixed;
+        empty = c.clear.ensures.empty;
+        history = c.clear.ensures.history;
+        learned = refl;
+      };
+    }
+
+pub returns : goal.returns
+returns g c =
+    let opened = c.in-Ok.ensures.answer in
+    record {
+      answer = record {
+        opened = opened;
+        enough = omega (arith, c.if-have-need.false, c.len-have.ensures);
+        known = refl;
+        learned = refl;
+        usable = refl;
+        empty = c.clear.ensures.begins;
+        shown = λ image told. let shown = opened.shown image told in (shown.0, shown.1, record { journal = shown.2; table = c.clear.ensures.begins });
+      };
       forgotten = record {
         fixed = c.in-Ok.ensures.fixed;
         empty = c.clear.ensures.empty;

@@ -1,0 +1,5 @@
+pub mod Lines
+pub mod KeptCounts
+pub mod CompanyWords
+pub mod TallyLines
+pub mod Words

@@ -1,0 +1,10 @@
+pub mod Reports
+pub mod ReportWords
+pub mod WordsReading
+pub mod CsvLines
+pub mod Listings
+pub mod CodeLines
+pub mod Statistics
+pub mod TallyRows
+pub mod ReportText
+pub mod ReportPuts

@@ -1,0 +1,24 @@
+-- How long the lists of an office are.
+use Rattle.std.proofs.Common.{◌≡◌, ℕ, zero, suc, ◌+◌, ◌<◌, ◌≤◌, List, [], ◌∷◌, length, get_or, All, AllPairs, sym, ◌∙◌, arith}
+use Rattle.std.specs.FinMap.{entries, values, len, len-entries}
+use Rattle.std.proofs.lemmas.Map.Entries.{length-values_of}
+use Rattle.msag_ranges.specs.StreetGuide.{IsSoundGuide}
+use Rattle.msag_ranges.specs.declared.range.Range.{Range}
+use Rattle.number_table.specs.NumberTable.{NumberTable}
+
+-- as many rows as numbers
+pub as_many_rows : (table : NumberTable) → length (values table) ≡ len table
+as_many_rows table = length-values_of (entries table) ∙ sym (len-entries table)
+
+-- ids that rise from 1 are no less than their places
+climbs : (ranges : List Range) (next : ℕ) (d : Range) → AllPairs (λ r s. r.id < s.id) ranges → All (λ r. (1 ≤ r.id) × (r.id < next)) ranges → (k : ℕ) → k < length ranges → k + 1 ≤ (get_or ranges k d).id
+climbs ranges next d rising known zero within = (known 0 d within).0
+climbs ranges next d rising known (suc k) within =
+    omega (arith, climbs ranges next d rising known k (omega (arith, within)), rising k (suc k) d (omega arith) within)
+
+-- there are fewer ranges than the next id
+pub few_ranges : (ranges : List Range) (next limit : ℕ) → IsSoundGuide ranges next limit → length ranges + 1 ≤ next
+few_ranges [] next limit sound = omega (arith, sound.first)
+few_ranges (r ∷ rest) next limit sound =
+    let last : length rest < length (r ∷ rest) = omega arith in
+    omega (arith, climbs (r ∷ rest) next r sound.rising sound.known (length rest) last, (sound.known (length rest) r last).1)
