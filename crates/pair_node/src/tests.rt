@@ -9,6 +9,7 @@ use node_journal::{LAST_EPOCH, format};
 use office_entry::{Edit, Entry};
 use office_state::Limits;
 use std::alloc::Global;
+use std::process::Abort;
 use std::test::Fail;
 
 // Room for five blocks.
@@ -157,253 +158,398 @@ fn with_frames(alloc: Global) -> Result<Option<Four<MemDisk>>, NoMemory> {
     Ok(Some(four))
 }
 
+// A call of a node.
+#[derive(Clone, Copy, Debug)]
+enum Call {
+    /// The entry, and its epoch.
+    Write(u32, u32),
+    Learn(u32),
+    /// The number of the message, and its epoch.
+    Message(u32, u32),
+    Store(Note),
+    NoteEpoch(u32),
+    Stop,
+    /// The epoch that is known, and how many frames are needed.
+    Restart(u32, u32),
+    Look,
+}
+
+// A message: its epoch, its number, the epoch before it and what it tells.
+#[derive(Clone, Copy, Debug)]
+struct Note(u32, u32, u32, Telling);
+
+// What a call answers.
+#[derive(Clone, Copy, Debug, PartialEq, Eq)]
+enum Said {
+    Done,
+    Written(u32),
+    NotWritten(AppendFault),
+    NotLearned(LearnFault),
+    /// The number, the epoch before it and what it tells.
+    Message(u32, u32, Telling),
+    NotRead(ReadFault),
+    Came(Delivered),
+    NotStored,
+    NotStarted(StartFault),
+    /// How many frames the journal has and are learned, the epoch that is known, how many entries the table
+    /// has, and whether the node is usable.
+    Seen(u32, u32, u32, u32, bool),
+}
+
+fn written(answer: Result<u32, AppendFault>) -> Said {
+    match answer {
+        Ok(number) => Said::Written(number),
+        Err(fault) => Said::NotWritten(fault),
+    }
+}
+
+fn learned(answer: Result<(), LearnFault>) -> Said {
+    match answer {
+        Ok(()) => Said::Done,
+        Err(fault) => Said::NotLearned(fault),
+    }
+}
+
+fn shown(answer: Result<(u32, u32, Telling), ReadFault>) -> Said {
+    match answer {
+        Ok((number, before, what)) => Said::Message(number, before, what),
+        Err(fault) => Said::NotRead(fault),
+    }
+}
+
+fn came(answer: Result<Delivered, DiskFault>) -> Said {
+    match answer {
+        Ok(delivered) => Said::Came(delivered),
+        Err(DiskFault) => Said::NotStored,
+    }
+}
+
+fn started(answer: Result<(), StartFault>) -> Said {
+    match answer {
+        Ok(()) => Said::Done,
+        Err(fault) => Said::NotStarted(fault),
+    }
+}
+
+fn seen<D: Disk + Drop>(four: &Four<D>) -> Said {
+    let node = &four.node;
+    Said::Seen(
+        node.len(),
+        node.learned(),
+        node.known(),
+        node.office().entries(),
+        node.usable(),
+    )
+}
+
+// The node hears of an epoch, where it knows no later one.
+fn note_epoch<D: Disk + Drop>(four: &mut Four<D>, epoch: u32) -> Option<Said> {
+    if four.node.known() > epoch {
+        return None;
+    }
+    four.node.note_epoch(epoch);
+    Some(Said::Done)
+}
+
+// Does a call, where the node may be asked.
+fn called<D: Disk + Drop>(four: &mut Four<D>, call: Call) -> Option<Said> {
+    Some(match call {
+        Call::Write(code, epoch) => written(write(four, code, epoch)?),
+        Call::Learn(upto) => learned(learn(four, upto)?),
+        Call::Message(k, epoch) => shown(message(four, k, epoch)?),
+        Call::Store(Note(epoch, number, before, told)) => {
+            came(store(four, epoch, number, before, told)?)
+        }
+        Call::NoteEpoch(epoch) => note_epoch(four, epoch)?,
+        Call::Stop => {
+            four.node.stop();
+            Said::Done
+        }
+        Call::Restart(known, need) => started(four.node.restart(known, need)),
+        Call::Look => seen(four),
+    })
+}
+
+// Does the calls of a script one after the other: each answers what stands behind it.
+fn follow<D: Disk + Drop>(rt: &impl Abort, four: Option<Four<D>>, script: &[(Call, Said)]) {
+    let Some(mut four) = four else {
+        assert!(rt; false, "it does not start");
+        return;
+    };
+    for (call, said) in script {
+        assert_eq!(rt; called(&mut four, *call), Some(*said), "{call:?}");
+    }
+}
+
+// An entry that was there already is not due, and those before it stay learned.
+const LEARNED: [(Call, Said); 14] = [
+    (Call::Look, Said::Seen(0, 0, 2, 0, true)),
+    (Call::Write(1, 1), Said::Written(1)),
+    (Call::Write(2, 2), Said::Written(2)),
+    (Call::Look, Said::Seen(2, 0, 2, 0, true)),
+    (Call::Learn(1), Said::Done),
+    (Call::Look, Said::Seen(2, 1, 2, 1, true)),
+    (Call::Learn(2), Said::Done),
+    (Call::Learn(1), Said::Done),
+    (Call::Look, Said::Seen(2, 2, 2, 2, true)),
+    (Call::Write(2, 2), Said::Written(3)),
+    (Call::Learn(3), Said::NotLearned(LearnFault::NotDue(3))),
+    (Call::Write(4, 2), Said::Written(4)),
+    (Call::Write(5, 2), Said::NotWritten(AppendFault::Full(4))),
+    (Call::Look, Said::Seen(4, 2, 2, 2, true)),
+];
+
 #[test]
 fn a_node_learns_what_it_writes(rt: HostRuntime) -> Result<(), Fail> {
     let alloc = rt.alloc();
-    let mut four = start(alloc, formatted(alloc, 0)?, 2, 0)
-        .ok()
-        .expect(&rt, "it starts");
-    assert_eq!(rt;
-        (four.node.len(), four.node.learned(), four.node.known()),
-        (0, 0, 2)
-    );
-    assert_eq!(rt; write(&mut four, 1, 1), Some(Ok(1)));
-    assert_eq!(rt; write(&mut four, 2, 2), Some(Ok(2)));
-    assert_eq!(rt; (four.node.len(), four.node.learned()), (2, 0));
-    assert_eq!(rt; learn(&mut four, 1), Some(Ok(())));
-    assert_eq!(rt; four.node.learned(), 1);
-    assert_eq!(rt; learn(&mut four, 2), Some(Ok(())));
-    assert_eq!(rt; (four.node.learned(), four.node.office().entries()), (2, 2));
-    assert_eq!(rt; learn(&mut four, 1), Some(Ok(())));
-    assert_eq!(rt; four.node.learned(), 2);
-    // An entry that was there already is not due, and those before it stay learned.
-    assert_eq!(rt; write(&mut four, 2, 2), Some(Ok(3)));
-    assert_eq!(rt; learn(&mut four, 3), Some(Err(LearnFault::NotDue(3))));
-    assert_eq!(rt; (four.node.learned(), four.node.usable()), (2, true));
-    assert_eq!(rt; write(&mut four, 4, 2), Some(Ok(4)));
-    assert_eq!(rt; write(&mut four, 5, 2), Some(Err(AppendFault::Full(4))));
-    assert_eq!(rt; four.node.usable(), true);
+    follow(&rt, start(alloc, formatted(alloc, 0)?, 2, 0).ok(), &LEARNED);
     Ok(())
 }
+
+const TOLD: [(Call, Said); 5] = [
+    (
+        Call::Message(1, 5),
+        Said::Message(1, 0, Telling::Frame(1, 1)),
+    ),
+    (
+        Call::Message(2, 5),
+        Said::Message(2, 1, Telling::Frame(1, 2)),
+    ),
+    (
+        Call::Message(3, 5),
+        Said::Message(3, 1, Telling::Frame(3, 3)),
+    ),
+    (Call::Message(4, 5), Said::Message(4, 3, Telling::End)),
+    (Call::Look, Said::Seen(3, 0, 3, 0, true)),
+];
 
 #[test]
 fn messages_tell_the_frames_and_the_end(rt: HostRuntime) -> Result<(), Fail> {
-    let mut four = with_frames(rt.alloc())?.expect(&rt, "it starts");
-    let table = [
-        (1, 0, Telling::Frame(1, 1)),
-        (2, 1, Telling::Frame(1, 2)),
-        (3, 1, Telling::Frame(3, 3)),
-        (4, 3, Telling::End),
-    ];
-    for (k, before, what) in table {
-        assert_eq!(rt;
-            message(&mut four, k, 5),
-            Some(Ok((k, before, what))),
-            "{k}"
-        );
-    }
-    assert_eq!(rt; (four.node.len(), four.node.known()), (3, 3));
+    follow(&rt, with_frames(rt.alloc())?, &TOLD);
     Ok(())
 }
 
-// The acknowledgement of a message.
-fn ack(epoch: u32, number: u32, end: bool) -> Ack {
-    Ack { epoch, number, end }
-}
+// Messages; what each comes to at a node with frames of the epochs 1, 1 and 3 that knows epoch 3; and how
+// many frames and which epoch it has then.
+const STORED: [(Note, Delivered, (u32, u32)); 11] = [
+    (
+        Note(2, 4, 3, Telling::Frame(2, 4)),
+        Delivered::Stale { epoch: 2, known: 3 },
+        (3, 3),
+    ),
+    (
+        Note(4, 5, 3, Telling::End),
+        Delivered::Behind { len: 3, number: 5 },
+        (3, 4),
+    ),
+    (
+        Note(3, 2, 1, Telling::Frame(1, 2)),
+        Delivered::Have(Ack {
+            epoch: 3,
+            number: 2,
+            end: false,
+        }),
+        (3, 3),
+    ),
+    (
+        Note(4, 2, 1, Telling::Frame(2, 4)),
+        Delivered::Cut(2),
+        (1, 4),
+    ),
+    (
+        Note(3, 4, 2, Telling::Frame(3, 4)),
+        Delivered::Cut(3),
+        (2, 3),
+    ),
+    (
+        Note(3, 4, 3, Telling::Frame(3, 4)),
+        Delivered::Stored(Ack {
+            epoch: 3,
+            number: 4,
+            end: false,
+        }),
+        (4, 3),
+    ),
+    (
+        Note(5, 4, 3, Telling::Frame(4, 4)),
+        Delivered::Stored(Ack {
+            epoch: 5,
+            number: 4,
+            end: false,
+        }),
+        (4, 5),
+    ),
+    (Note(4, 4, 2, Telling::End), Delivered::Cut(3), (2, 4)),
+    (Note(4, 3, 1, Telling::End), Delivered::Cut(3), (2, 4)),
+    (
+        Note(3, 3, 1, Telling::End),
+        Delivered::HaveEnd(Ack {
+            epoch: 3,
+            number: 3,
+            end: true,
+        }),
+        (3, 3),
+    ),
+    (
+        Note(4, 4, 3, Telling::End),
+        Delivered::HaveEnd(Ack {
+            epoch: 4,
+            number: 4,
+            end: true,
+        }),
+        (3, 4),
+    ),
+];
 
-// A message by its epoch, its number, the epoch before it and what it tells; what it comes to; and
-// how many frames and which epoch the node has then, of the epochs 1, 1 and 3 and with epoch 3 before.
 #[test]
 fn messages_are_stored_by_the_table(rt: HostRuntime) -> Result<(), Fail> {
-    let table = [
-        (
-            (2, 4, 3, Telling::Frame(2, 4)),
-            Delivered::Stale { epoch: 2, known: 3 },
-            (3, 3),
-        ),
-        (
-            (4, 5, 3, Telling::End),
-            Delivered::Behind { len: 3, number: 5 },
-            (3, 4),
-        ),
-        (
-            (3, 2, 1, Telling::Frame(1, 2)),
-            Delivered::Have(ack(3, 2, false)),
-            (3, 3),
-        ),
-        ((4, 2, 1, Telling::Frame(2, 4)), Delivered::Cut(2), (1, 4)),
-        ((3, 4, 2, Telling::Frame(3, 4)), Delivered::Cut(3), (2, 3)),
-        (
-            (3, 4, 3, Telling::Frame(3, 4)),
-            Delivered::Stored(ack(3, 4, false)),
-            (4, 3),
-        ),
-        (
-            (5, 4, 3, Telling::Frame(4, 4)),
-            Delivered::Stored(ack(5, 4, false)),
-            (4, 5),
-        ),
-        ((4, 4, 2, Telling::End), Delivered::Cut(3), (2, 4)),
-        ((4, 3, 1, Telling::End), Delivered::Cut(3), (2, 4)),
-        (
-            (3, 3, 1, Telling::End),
-            Delivered::HaveEnd(ack(3, 3, true)),
-            (3, 3),
-        ),
-        (
-            (4, 4, 3, Telling::End),
-            Delivered::HaveEnd(ack(4, 4, true)),
-            (3, 4),
-        ),
-    ];
-    for ((epoch, number, before, told), answer, left) in table {
-        let mut four = with_frames(rt.alloc())?.expect(&rt, "it starts");
-        assert_eq!(rt;
-            store(&mut four, epoch, number, before, told),
-            Some(Ok(answer))
-        );
-        assert_eq!(rt;
-            (four.node.len(), four.node.known()),
-            left,
-            "{epoch} {number}"
-        );
+    for (note, came, (len, known)) in STORED {
+        let script = [
+            (Call::Store(note), Said::Came(came)),
+            (Call::Look, Said::Seen(len, 0, known, 0, true)),
+        ];
+        follow(&rt, with_frames(rt.alloc())?, &script);
     }
     Ok(())
 }
 
-// A cut from a frame on, after two entries were learned, and how many are then.
+// A cut from a frame on, after two entries were learned; how many are then; and how many frames are left,
+// which are learned anew.
+const CUTS: [(u32, u32, u32); 3] = [(3, 2, 2), (2, 0, 1), (1, 0, 0)];
+
 #[test]
 fn a_cut_of_what_was_learned_empties_the_table(rt: HostRuntime) -> Result<(), Fail> {
-    for (number, learned) in [(3, 2), (2, 0), (1, 0)] {
-        let mut four = with_frames(rt.alloc())?.expect(&rt, "it starts");
-        assert_eq!(rt; learn(&mut four, 2), Some(Ok(())));
-        assert_eq!(rt;
-            store(&mut four, 9, number, 1, Telling::Frame(9, 4)),
-            Some(Ok(Delivered::Cut(number)))
-        );
-        assert_eq!(rt; four.node.len(), number - 1);
-        assert_eq!(rt;
-            (four.node.learned(), four.node.office().entries()),
-            (learned, learned)
-        );
-        // What is there now is learned anew.
-        assert_eq!(rt; learn(&mut four, number - 1), Some(Ok(())));
-        assert_eq!(rt; four.node.office().entries(), number - 1);
+    for (number, learned, left) in CUTS {
+        let note = Note(9, number, 1, Telling::Frame(9, 4));
+        let script = [
+            (Call::Learn(2), Said::Done),
+            (Call::Store(note), Said::Came(Delivered::Cut(number))),
+            (Call::Look, Said::Seen(left, learned, 9, learned, true)),
+            (Call::Learn(left), Said::Done),
+            (Call::Look, Said::Seen(left, left, 9, left, true)),
+        ];
+        follow(&rt, with_frames(rt.alloc())?, &script);
     }
     Ok(())
 }
+
+const HEARD: [(Call, Said); 3] = [
+    (Call::NoteEpoch(7), Said::Done),
+    (Call::Look, Said::Seen(3, 0, 7, 0, true)),
+    (
+        Call::Store(Note(6, 4, 3, Telling::End)),
+        Said::Came(Delivered::Stale { epoch: 6, known: 7 }),
+    ),
+];
 
 #[test]
 fn a_node_hears_of_an_epoch(rt: HostRuntime) -> Result<(), Fail> {
-    let mut four = with_frames(rt.alloc())?.expect(&rt, "it starts");
-    if four.node.known() <= 7 {
-        four.node.note_epoch(7);
-    }
-    assert_eq!(rt; four.node.known(), 7);
-    let stale = Delivered::Stale { epoch: 6, known: 7 };
-    assert_eq!(rt; store(&mut four, 6, 4, 3, Telling::End), Some(Ok(stale)));
+    follow(&rt, with_frames(rt.alloc())?, &HEARD);
     Ok(())
 }
 
+// A node that is stopped keeps its table until it starts again, with an empty one.
+const RESTARTED: [(Call, Said); 10] = [
+    (Call::Learn(3), Said::Done),
+    (Call::Stop, Said::Done),
+    (Call::Look, Said::Seen(3, 3, 3, 3, false)),
+    (Call::Restart(5, 3), Said::Done),
+    (Call::Look, Said::Seen(3, 0, 5, 0, true)),
+    (Call::Learn(3), Said::Done),
+    (
+        Call::Restart(6, 4),
+        Said::NotStarted(StartFault::Short { have: 3, need: 4 }),
+    ),
+    (Call::Look, Said::Seen(3, 0, 5, 0, false)),
+    (Call::Restart(6, 0), Said::Done),
+    (Call::Look, Said::Seen(3, 0, 6, 0, true)),
+];
+
 #[test]
 fn a_node_stops_and_starts_again(rt: HostRuntime) -> Result<(), Fail> {
-    let mut four = with_frames(rt.alloc())?.expect(&rt, "it starts");
-    assert_eq!(rt; learn(&mut four, 3), Some(Ok(())));
-    four.node.stop();
-    assert_eq!(rt; (four.node.usable(), four.node.learned()), (false, 3));
-    assert_eq!(rt; four.node.restart(5, 3), Ok(()));
-    assert_eq!(rt;
-        (four.node.usable(), four.node.known(), four.node.len()),
-        (true, 5, 3)
-    );
-    assert_eq!(rt; (four.node.learned(), four.node.office().entries()), (0, 0));
-    assert_eq!(rt; learn(&mut four, 3), Some(Ok(())));
-    let short = StartFault::Short { have: 3, need: 4 };
-    assert_eq!(rt; four.node.restart(6, 4), Err(short));
-    assert_eq!(rt; (four.node.usable(), four.node.known()), (false, 5));
-    assert_eq!(rt; four.node.restart(6, 0), Ok(()));
-    assert_eq!(rt; (four.node.usable(), four.node.known()), (true, 6));
-    assert_eq!(rt; four.node.office().entries(), 0);
+    follow(&rt, with_frames(rt.alloc())?, &RESTARTED);
     Ok(())
+}
+
+// Why a node does not start over a disk.
+fn refused(alloc: Global, disk: MemDisk, need: u32) -> Option<StartFault> {
+    start(alloc, disk, 1, need).err()
 }
 
 #[test]
 fn a_start_is_refused(rt: HostRuntime) -> Result<(), Fail> {
     let alloc = rt.alloc();
-    let disk = with_frames(alloc)?.expect(&rt, "it starts").node.close();
+    let Some(four) = with_frames(alloc)? else {
+        assert!(rt; false, "it does not start");
+        return Ok(());
+    };
     let short = StartFault::Short { have: 3, need: 4 };
-    assert_eq!(rt; start(alloc, disk, 1, 4).err(), Some(short));
-    let failing = start(alloc, formatted(alloc, 4)?, 1, 0).err();
-    assert_eq!(rt; failing, Some(StartFault::DiskFault));
-    let disk = MemDisk::new(alloc, ROOM, RECORD, vec![in alloc]?)?;
-    assert_eq!(rt; start(alloc, disk, 1, 0).err(), Some(StartFault::Foreign));
+    assert_eq!(rt; refused(alloc, four.node.close(), 4), Some(short));
+    let failing = formatted(alloc, 4)?;
+    assert_eq!(rt; refused(alloc, failing, 0), Some(StartFault::DiskFault));
+    let empty = MemDisk::new(alloc, ROOM, RECORD, vec![in alloc]?)?;
+    assert_eq!(rt; refused(alloc, empty, 0), Some(StartFault::Foreign));
     Ok(())
 }
 
-// A call of a node.
-#[derive(Clone, Copy, Debug)]
-enum Call {
-    Write,
-    Learn,
-    Message,
-    Store,
-    Cut,
+// Calls that use the disk, and how each is refused where the disk stopped.
+const FAILING: [(Call, Said); 5] = [
+    (Call::Write(4, 3), Said::NotWritten(AppendFault::DiskFault)),
+    (Call::Learn(3), Said::NotLearned(LearnFault::DiskFault)),
+    (Call::Message(2, 3), Said::NotRead(ReadFault::DiskFault)),
+    (
+        Call::Store(Note(3, 4, 3, Telling::Frame(3, 4))),
+        Said::NotStored,
+    ),
+    (
+        Call::Store(Note(4, 2, 1, Telling::Frame(2, 4))),
+        Said::NotStored,
+    ),
+];
+
+// Node a with three frames, over a disk that stops after the two calls of a start.
+fn stopping(alloc: Global) -> Result<Option<Four<FuseDisk>>, NoMemory> {
+    let Some(four) = with_frames(alloc)? else {
+        return Ok(None);
+    };
+    Ok(start(alloc, FuseDisk::new(four.node.close(), 2), 3, 3).ok())
 }
 
-// Whether it was refused for its disk.
-fn fails<D: Disk + Drop>(four: &mut Four<D>, call: Call) -> bool {
-    match call {
-        Call::Write => write(four, 4, 3) == Some(Err(AppendFault::DiskFault)),
-        Call::Learn => learn(four, 3) == Some(Err(LearnFault::DiskFault)),
-        Call::Message => message(four, 2, 3) == Some(Err(ReadFault::DiskFault)),
-        Call::Store => store(four, 3, 4, 3, Telling::Frame(3, 4)) == Some(Err(DiskFault)),
-        Call::Cut => store(four, 4, 2, 1, Telling::Frame(2, 4)) == Some(Err(DiskFault)),
-    }
-}
-
-// The disk stops after the two calls of a start.
 #[test]
 fn a_node_whose_disk_fails_is_not_usable(rt: HostRuntime) -> Result<(), Fail> {
-    let alloc = rt.alloc();
-    let calls = [
-        Call::Write,
-        Call::Learn,
-        Call::Message,
-        Call::Store,
-        Call::Cut,
-    ];
-    for call in calls {
-        let disk = with_frames(alloc)?.expect(&rt, "it starts").node.close();
-        let mut four = start(alloc, FuseDisk::new(disk, 2), 3, 3)
-            .ok()
-            .expect(&rt, "it starts");
-        assert!(rt; fails(&mut four, call), "{call:?}");
-        assert_eq!(rt; (four.node.usable(), four.node.known()), (false, 3));
-        assert_eq!(rt; four.node.restart(4, 0), Err(StartFault::DiskFault));
-        assert_eq!(rt; (four.node.usable(), four.node.known()), (false, 3));
+    for (call, said) in FAILING {
+        let script = [
+            (call, said),
+            (Call::Look, Said::Seen(3, 0, 3, 0, false)),
+            (Call::Restart(4, 0), Said::NotStarted(StartFault::DiskFault)),
+            (Call::Look, Said::Seen(0, 0, 3, 0, false)),
+        ];
+        follow(&rt, stopping(rt.alloc())?, &script);
     }
     Ok(())
 }
 
 // A write that fails at one of its calls (6 to 9, behind a format and a start), and how many frames
 // are there once the node has started again.
+const WRITES: [(u64, u32); 4] = [(6, 0), (7, 0), (8, 0), (9, 1)];
+
 #[test]
 fn a_node_starts_again_after_a_failed_write(rt: HostRuntime) -> Result<(), Fail> {
     let alloc = rt.alloc();
-    for (failing, len) in [(6, 0), (7, 0), (8, 0), (9, 1)] {
-        let mut four = start(alloc, formatted(alloc, failing)?, 1, 0)
-            .ok()
-            .expect(&rt, "it starts");
-        assert!(rt; write(&mut four, 1, 1) == Some(Err(AppendFault::DiskFault)));
-        assert_eq!(rt; four.node.usable(), false);
-        assert_eq!(rt; four.node.restart(2, 0), Ok(()));
-        assert_eq!(rt;
-            (four.node.usable(), four.node.len()),
-            (true, len),
-            "{failing}"
+    for (failing, len) in WRITES {
+        let script = [
+            (Call::Write(1, 1), Said::NotWritten(AppendFault::DiskFault)),
+            (Call::Look, Said::Seen(0, 0, 1, 0, false)),
+            (Call::Restart(2, 0), Said::Done),
+            (Call::Look, Said::Seen(len, 0, 2, 0, true)),
+            (Call::Learn(len), Said::Done),
+            (Call::Look, Said::Seen(len, len, 2, len, true)),
+        ];
+        follow(
+            &rt,
+            start(alloc, formatted(alloc, failing)?, 1, 0).ok(),
+            &script,
         );
-        assert_eq!(rt; learn(&mut four, len), Some(Ok(())));
-        assert_eq!(rt; four.node.office().entries(), len);
     }
     Ok(())
 }
