@@ -24,7 +24,7 @@ not_true : (b : Bool) → (b ≡ true → ⊥) → b ≡ false
 not_true true h = absurd (h refl)
 not_true false h = refl
 
-same_id : (r : Range) (id : ℕ) → (r.id == id) ≡ true → r.id ≡ id
+pub same_id : (r : Range) (id : ℕ) → (r.id == id) ≡ true → r.id ≡ id
 same_id r id h = grind (arith, nat_tests)
 
 -- a list with a least number is not empty
@@ -43,7 +43,7 @@ filter-none p (x ∷ xs) h =
 pub no_overlap : (ranges : List Range) (r : Range) (except : Option ℕ) → least_overlap ranges r except ≡ None → All (λ s. (is_other except s.id && overlaps r s) ≡ false) ranges
 no_overlap ranges r except h = filter-none (λ s. is_other except s.id && overlaps r s) ranges (least-none _ h)
 
-none-apart : (r s : Range) → (true && overlaps r s) ≡ false → Overlap r s → ⊥
+pub none-apart : (r s : Range) → (true && overlaps r s) ≡ false → Overlap r s → ⊥
 none-apart r s h o = let yes : overlaps r s ≡ true = overlaps-there r s o in cc
 
 -- a new range
@@ -59,7 +59,7 @@ sound-add ranges next limit r g is stands number room = record {
   within = omega (arith, length_push ranges r);
 }
 
-length-filter_le : (p : Range → Bool) (xs : List Range) → length (filter p xs) ≤ length xs
+pub length-filter_le : (p : Range → Bool) (xs : List Range) → length (filter p xs) ≤ length xs
 length-filter_le p [] = omega arith
 length-filter_le p (x ∷ xs) =
     let rest = length-filter_le p xs in
@@ -115,7 +115,7 @@ pairs-set R xs i y inside h before behind = λ a b d l m.
       ]
     ]
 
-other-apart : (id : ℕ) (r s : Range) → s.id ≢ id → (is_other (Some id) s.id && overlaps r s) ≡ false → Overlap r s → ⊥
+pub other-apart : (id : ℕ) (r s : Range) → s.id ≢ id → (is_other (Some id) s.id && overlaps r s) ≡ false → Overlap r s → ⊥
 other-apart id r s ne h o =
     let yes : overlaps r s ≡ true = overlaps-there r s o in
     let other : not (s.id == id) ≡ true = grind (arith, nat_tests) in

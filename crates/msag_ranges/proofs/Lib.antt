@@ -1,3 +1,10 @@
 pub mod Streets
 pub mod Overlapping
 pub mod GuideKept
+pub mod Places
+pub mod Narrowing
+pub mod IndexLaw
+pub mod IndexKept
+pub mod ById
+pub mod Found
+pub mod Nearest

@@ -27,13 +27,13 @@ there p a n k low high h =
     (k - a, k, omega (arith, length-range_with_len a n), get_or-range_with_len a n (k - a) k (omega arith) ∙ omega arith, h)
 
 -- a range's numbers
-held-parts : (r : Range) (n : ℕ) → is_held r n ≡ true → (r.low ≤ n) × (n ≤ r.high) × (has_parity r.parity n ≡ true)
+pub held-parts : (r : Range) (n : ℕ) → is_held r n ≡ true → (r.low ≤ n) × (n ≤ r.high) × (has_parity r.parity n ≡ true)
 held-parts r n h =
     let w = and_parts _ _ h in
     let v = and_parts (nat_le r.low n) (nat_le n r.high) w.0 in
     (grind (arith, nat_tests), grind (arith, nat_tests), w.1)
 
-held-from : (r : Range) (n : ℕ) → r.low ≤ n → n ≤ r.high → has_parity r.parity n ≡ true → is_held r n ≡ true
+pub held-from : (r : Range) (n : ℕ) → r.low ≤ n → n ≤ r.high → has_parity r.parity n ≡ true → is_held r n ≡ true
 held-from r n low high parity =
     let l : nat_le r.low n ≡ true = grind (arith, nat_tests) in
     let h : nat_le n r.high ≡ true = grind (arith, nat_tests) in

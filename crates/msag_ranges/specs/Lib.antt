@@ -1,3 +1,4 @@
 pub mod StreetGuide
 pub mod HeldNumbers
 pub mod GuideChanges
+pub mod GuideIndex

@@ -1,31 +1,33 @@
-//! The street guide: a list of ranges, and the id of the next one.
-ghost use Rattle.std.specs.Prelude.{◌≡◌, ◌+◌, ◌<◌, ◌≤◌, ◌==◌, ◌&&◌, [], ◌∷◌, ◌++◌, length, find, position, IsSome, Some, None, IfOk, OnOk, IfErr, IfSome, Contains, true};
-ghost use Rattle.std.specs.List.{list_any};
-ghost use Rattle.ali_base.specs.StreetKey.{same_key};
+//! The street guide: its ranges with their index, the id of the next one, and its changes.
+ghost use Rattle.std.specs.Prelude.{◌≡◌, ◌+◌, ◌*◌, ◌<◌, ◌≤◌, ◌==◌, [], ◌∷◌, ◌++◌, length, position, IsSome, Some, None, IfOk, OnOk, IfErr, IfSome};
 ghost use Rattle.std.specs.Option.{option_copied};
-ghost use Rattle.msag_ranges.specs.StreetGuide.{IsSoundGuide, MayStand, is_other, overlaps, is_between_ends, holds, holder, range_of, nearest_fault, least_overlap, new_range, moved, with_moved, without};
-ghost use Rattle.msag_ranges.specs.declared.range.Range.{Range};
+ghost use Rattle.msag_ranges.specs.StreetGuide.{IsSoundGuide, MayStand, range_of, new_range, moved, with_moved, without};
+ghost use Rattle.msag_ranges.specs.GuideIndex.{IsIndexOf};
 ghost use Rattle.msag_ranges.specs.GuideChanges.{HasNoRoom, HasRanges, HasRoom, empty_guide};
 
+use crate::entries::{put_range, take_range};
 use crate::guide_fault::GuideFault;
-use crate::held_numbers::{holds, is_between_ends, same_key};
-use crate::overlap::{is_other, overlaps};
+use crate::place::Entry;
 use crate::range::Range;
+use crate::search::place_of_id;
 use ali_base::{Esn, HIGHEST_HOUSE, House, NoMemory, Parity, StreetKey};
 use std::alloc::Global;
 use std::marker::Model;
 
 /// The street guide: the ranges in the order of their ids, and the id that the next one gets.
+/// Beside them stands their index, by street and number.
 #[derive(Drop)]
 pub struct Guide {
     ranges: Vec<Range>,
+    index: Vec<Entry>,
     next_id: u32,
     limit: u32,
 }
 
 impl Model for Guide {
-    ghost use Rattle.std.specs.Prelude.{◌-◌, min, length, vec_capacity};
-    ghost use Rattle.msag_ranges.specs.StreetGuide.{StreetGuide, IsSoundGuide};
+    ghost use Rattle.std.specs.Prelude.{◌-◌, ◌/◌, min, length, vec_capacity};
+    ghost use Rattle.msag_ranges.specs.StreetGuide.{StreetGuide};
+    ghost use Rattle.msag_ranges.specs.GuideIndex.{IsIndexedGuide};
 
     ghost Value = { StreetGuide };
 
@@ -33,10 +35,11 @@ impl Model for Guide {
       ranges = g.ranges.items;
       next = g.next_id;
       limit = g.limit;
-      spare = min (vec_capacity g.ranges) g.limit - length g.ranges.items;
+      spare = min (min (vec_capacity g.ranges) g.limit) (vec_capacity g.index / 2) - length g.ranges.items;
     } };
 
-    ghost invariant = { λ g. IsSoundGuide g.ranges.items g.next_id g.limit };
+    ghost invariant = { λ g.
+        IsIndexedGuide g.ranges.items g.index.items g.next_id g.limit (vec_capacity g.index) };
 }
 
 impl Guide {
@@ -46,6 +49,7 @@ impl Guide {
     {
         Ok(Guide {
             ranges: Vec::new(alloc),
+            index: Vec::new(alloc),
             next_id: 1,
             limit,
         })
@@ -67,29 +71,13 @@ impl Guide {
         &self.ranges
     }
 
-    /// The range that holds this number of this street.
-    pub fn holder_of(&self, key: &StreetKey, n: House) -> Option<&Range>
-        ensures value { option_copied result ≡ holder self.now.ranges key.now n }
-        // Whichever range holds it is the one.
-        ensures only { (r : Range) → Contains self.now.ranges r → holds r key.now n ≡ true
-            → option_copied result ≡ Some r }
+    // The index of the ranges.
+    pub(crate) fn entries(&self) -> &[Entry]
+        ensures index { IsIndexOf result.now self.now.ranges }
+        ensures few { length result.now ≤ 2 * length self.now.ranges }
+        ensures sound { IsSoundGuide self.now.ranges self.now.next self.now.limit }
     {
-        self.first_holder(key, n)
-    }
-
-    /// Why no range holds this number of this street, asked where none does: 201 no range has the
-    /// street, 203 one of the street has the number between its ends, 202 otherwise.
-    pub fn nearest_fault(&self, key: &StreetKey, n: House) -> u16
-        requires { holder self.now.ranges key.now n ≡ None }
-        ensures { result ≡ nearest_fault self.now.ranges key.now n }
-    {
-        if !self.has_street(key) {
-            201
-        } else if self.has_between_ends(key, n) {
-            203
-        } else {
-            202
-        }
+        &self.index
     }
 
     /// The range of this id.
@@ -97,16 +85,9 @@ impl Guide {
         ensures value { option_copied result ≡ range_of self.now.ranges id }
         ensures sound { IsSoundGuide self.now.ranges self.now.next self.now.limit }
     {
-        self.ranges.iter().find(|r| r.id == id)
-    }
-
-    /// The least id of the ranges, other than the one of the id `except`, that share a number of a
-    /// street with `range`.
-    pub fn overlap(&self, range: &Range, except: Option<u32>) -> Option<u32>
-        ensures { result ≡ least_overlap self.now.ranges range.now except }
-    {
-        match self.first_overlap(range, except) {
-            Some(found) => Some(found.id),
+        let ranges = self.in_order();
+        match place_of_id(ranges, id) {
+            Some(at) => Some(&ranges[at]),
             None => None,
         }
     }
@@ -123,6 +104,10 @@ impl Guide {
             return Err(GuideFault::Full(self.limit));
         }
         if self.ranges.reserve(1).is_err() {
+            return Err(GuideFault::NoMemory);
+        }
+        let more = 2 * (self.ranges.len() + 1) - self.index.len();
+        if self.index.reserve(more).is_err() {
             return Err(GuideFault::NoMemory);
         }
         Ok(())
@@ -144,14 +129,16 @@ impl Guide {
     {
         prove!(high.number() <= HIGHEST_HOUSE);
         let id = self.next_id;
-        self.ranges.push_reserved(Range {
+        let range = Range {
             id,
             key,
             low,
             high,
             parity,
             esn,
-        });
+        };
+        put_range(&mut self.index, &range);
+        self.ranges.push_reserved(range);
         self.next_id = id + 1;
         id
     }
@@ -163,7 +150,10 @@ impl Guide {
         ensures spare { self.old.spare ≤ self.new.spare }
         ensures sound { IsSoundGuide self.new.ranges self.new.next self.new.limit }
     {
-        self.ranges.retain(|r| r.id != id);
+        if let Some(at) = self.place_of(id) {
+            let range = self.ranges.remove(at);
+            take_range(&mut self.index, &range);
+        }
     }
 
     /// Gives the range of this id, which is live, other ends and another ESN. Takes no memory. It asks
@@ -180,10 +170,16 @@ impl Guide {
     {
         prove!(high.number() <= HIGHEST_HOUSE);
         if let Some(at) = self.place_of(id) {
-            let range = &mut self.ranges[at];
-            range.low = low;
-            range.high = high;
-            range.esn = esn;
+            let range = self.ranges[at];
+            let moved = Range {
+                low,
+                high,
+                esn,
+                ..range
+            };
+            take_range(&mut self.index, &range);
+            put_range(&mut self.index, &moved);
+            self.ranges[at] = moved;
         }
     }
 
@@ -193,49 +189,14 @@ impl Guide {
         ensures spare { self.old.spare ≤ self.new.spare }
     {
         self.ranges.clear();
+        self.index.clear();
         self.next_id = 1;
-    }
-
-    // The first range that holds this number of this street.
-    fn first_holder(&self, key: &StreetKey, n: House) -> Option<&Range>
-        ensures value { option_copied result ≡ holder self.now.ranges key.now n }
-        ensures sound { IsSoundGuide self.now.ranges self.now.next self.now.limit }
-    {
-        self.ranges.iter().find(|r| holds(r, key, n))
-    }
-
-    // The first range, other than the one of the id `except`, that overlaps `range`.
-    fn first_overlap(&self, range: &Range, except: Option<u32>) -> Option<&Range>
-        ensures value { option_copied result
-            ≡ find (λ r. is_other except r.id && overlaps range.now r) self.now.ranges }
-        ensures sound { IsSoundGuide self.now.ranges self.now.next self.now.limit }
-    {
-        self.ranges
-            .iter()
-            .find(|r| is_other(except, r.id) && overlaps(range, r))
     }
 
     // Where the range of this id stands.
     fn place_of(&self, id: u32) -> Option<usize>
         ensures { result ≡ position (λ r. r.id == id) self.now.ranges }
     {
-        self.ranges.iter().position(|r| r.id == id)
-    }
-
-    // Whether a range has this street.
-    fn has_street(&self, key: &StreetKey) -> bool
-        ensures { result ≡ list_any (λ r. same_key r.key key.now) self.now.ranges }
-    {
-        self.ranges.iter().any(|r| same_key(&r.key, key))
-    }
-
-    // Whether a range of this street has the number between its ends.
-    fn has_between_ends(&self, key: &StreetKey, n: House) -> bool
-        ensures { result
-            ≡ list_any (λ r. same_key r.key key.now && is_between_ends r n) self.now.ranges }
-    {
-        self.ranges
-            .iter()
-            .any(|r| same_key(&r.key, key) && is_between_ends(r, n))
+        place_of_id(self.in_order(), id)
     }
 }

@@ -21,7 +21,7 @@ fn range(name: &[u8], low: u32, high: u32, parity: Parity, esn: u32) -> Option<R
 }
 
 // Adds the range where it may stand and there is room, and answers its id.
-fn add(guide: &mut Guide, range: Option<Range>) -> Option<u32> {
+pub(crate) fn add(guide: &mut Guide, range: Option<Range>) -> Option<u32> {
     let mut range = range?;
     range.id = guide.next_id();
     if !has_sound_ends(&range) || guide.overlap(&range, None).is_some() || range.id == u32::MAX {
@@ -32,7 +32,7 @@ fn add(guide: &mut Guide, range: Option<Range>) -> Option<u32> {
 }
 
 // Gives the range of this id other ends and another number, where it may stand so.
-fn move_to(guide: &mut Guide, id: u32, low: House, high: House, esn: Esn) -> bool {
+pub(crate) fn move_to(guide: &mut Guide, id: u32, low: House, high: House, esn: Esn) -> bool {
     let Some(found) = guide.get(id).copied() else {
         return false;
     };
