@@ -66,7 +66,8 @@ two_found (a ∷ b ∷ []) n len h =
 
 -- ---- days
 
-day_small : (d : CivilDay) → is_civil_date d.year d.month d.day ≡ true → (d.month < 100) × (d.day < 100)
+-- the months and days of the calendar have two digits
+pub day_small : (d : CivilDay) → is_civil_date d.year d.month d.day ≡ true → (d.month < 100) × (d.day < 100)
 day_small d h =
     let long = days_in_month_bounds (pos d.year) d.month in
     grind (arith, nat_tests)

@@ -5,3 +5,4 @@ pub mod Puts
 pub mod Steps
 pub mod DayTexts
 pub mod FrontsAgain
+pub mod NodeLetters

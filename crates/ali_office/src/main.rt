@@ -43,9 +43,9 @@ fn run<R: AllocGlobal + Files<File = File> + Input + Print>(
     for word in words {
         texts.push(word.as_str())?;
     }
-    let a = disk(rt, &texts, "a.jnl", true)?;
-    let b = disk(rt, &texts, "b.jnl", false)?;
-    let duty = disk(rt, &texts, "duty.jnl", false)?;
+    let a = disk(rt, &texts, "a.jnl")?;
+    let b = disk(rt, &texts, "b.jnl")?;
+    let duty = disk(rt, &texts, "duty.jnl")?;
     let mut source = ReaderSource::new(rt.reader());
     let mut sink = WriterSink::new(io::writer(rt));
     let (status, ..) = office(rt.alloc(), &texts, &mut source, &mut sink, a, b, duty);
@@ -53,18 +53,17 @@ fn run<R: AllocGlobal + Files<File = File> + Input + Print>(
 }
 
 // The disk over a file of the directory that the words name; for other words one whose every call
-// fails. `format` makes the file of a node that it formats, where the directory is there.
+// fails. `format` makes the files, where the directory is there.
 fn disk<R: AllocGlobal + Files<File = File>>(
     rt: &R,
     words: &[&str],
     name: &str,
-    formatted: bool,
 ) -> Result<FileDisk, NoMemory> {
     let mut options = File::options();
     let dir = match words {
         ["run", dir] => dir,
         ["format", dir] => {
-            options.create(formatted);
+            options.create(true);
             dir
         }
         _ => return Ok(FileDisk::new(options.open(rt, Path::new("")))),

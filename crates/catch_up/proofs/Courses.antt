@@ -180,11 +180,11 @@ abbrev pub IsAcked : World Entry → Type 0
 IsAcked v = length (holder_journal v.base) < v.base.ended
 
 -- What one message keeps: the world is lawful, nothing is booked, and a number after it is at least 1. Where the end was told, it is acknowledged.
-record Keeps (limits : Limits) (bounds : Bounds) (w : World Entry) (told : Told) (v : World Entry) : Type 0 where
-  lawful : IsLawful limits bounds v
-  booked : v.base.booked ≡ w.base.booked
-  counted : (j : ℕ) → number_after told ≡ Some j → 1 ≤ j
-  acked : is_end told ≡ true → IsAcked v
+pub record Keeps (limits : Limits) (bounds : Bounds) (w : World Entry) (told : Told) (v : World Entry) : Type 0 where
+  pub lawful : IsLawful limits bounds v
+  pub booked : v.base.booked ≡ w.base.booked
+  pub counted : (j : ℕ) → number_after told ≡ Some j → 1 ≤ j
+  pub acked : is_end told ≡ true → IsAcked v
 
 refused_not_end : {P : Type 0} (o : Option Refusal) (told : Told) → option_map Refused o ≡ Some told → is_end told ≡ true → P
 unfolding is_end
@@ -382,7 +382,8 @@ module _ (limits : Limits) (bounds : Bounds) (before now : Counts) (w v : World 
   at_holder reg (inl refused) = same _ refused
   at_holder reg (inr rest) = at_number reg (when_not _ _ rest.0) rest.1
 
-  pass_keeps : Gives before now Failed w (pass_row limits w k) told v → Keeps limits bounds w told v
+  -- what passing a message on keeps
+  pub pass_keeps : Gives before now Failed w (pass_row limits w k) told v → Keeps limits bounds w told v
   pass_keeps (inl refused) = same _ refused
   pass_keeps (inr rest) = at_holder (when_not _ _ rest.0) rest.1
 
@@ -408,6 +409,11 @@ tests_keep limits bounds before now w v told s (o ∷ items) row lawful rest (in
 abbrev first_tests : World Entry → List (Option Refusal)
 first_tests w = refusals.duty_is_down w ∷ refusals.node_is_down w w.base.duty.holder ∷ refusals.paired w ∷ refusals.node_is_down w (other w.base.duty.holder) ∷ []
 
+-- what the first message keeps
+pub first_keeps : (limits : Limits) (bounds : Bounds) (before now : Counts) (w v : World Entry) (told : Told) → IsLawful limits bounds w → Gives before now Failed w (first_row limits w) told v → Keeps limits bounds w told v
+first_keeps limits bounds before now w v told lawful gives =
+    tests_keep limits bounds before now w v told (state_of limits w) (first_tests w) (pass_row limits w (first_number w)) lawful (λ gives. pass_keeps limits bounds before now w v (first_number w) told lawful (omega arith) gives) gives
+
 module _ (limits : Limits) (bounds : Bounds) (before now : Counts) (told : Told) (v : World Entry) where
   -- what a whole course keeps
   abbrev pub Kept : World Entry → Type 0
@@ -425,7 +431,7 @@ module _ (limits : Limits) (bounds : Bounds) (before now : Counts) (told : Told)
   pub catching_up_keeps : (w : World Entry) → IsLawful limits bounds w → CatchesUp limits before now w told v → Kept w
   catching_up_keeps w lawful catches =
       course_keeps catches.0 (first_row limits w) w
-      (λ t u. tests_keep limits bounds before now w u t (state_of limits w) (first_tests w) (pass_row limits w (first_number w)) lawful (λ gives. pass_keeps limits bounds before now w u (first_number w) t lawful (omega arith) gives))
+      (λ t u. first_keeps limits bounds before now w u t lawful)
       catches.1
 
 module _ (limits : Limits) (bounds : Bounds) (before now : Counts) where
@@ -444,7 +450,7 @@ module _ (limits : Limits) (bounds : Bounds) (before now : Counts) where
       let k = on.0 in
       let u = on.1 in
       let so_far = so_far_keeps (first_row limits w) (first_number w) w on.2.0 k u lawful
-      (λ t x. tests_keep limits bounds before now w x t (state_of limits w) (first_tests w) (pass_row limits w (first_number w)) lawful (λ gives. pass_keeps limits bounds before now w x (first_number w) t lawful (omega arith) gives)) on.2.1 in
+      (λ t x. first_keeps limits bounds before now w x t lawful) on.2.1 in
       let sent = step_is_lawful limits bounds u (with_shipment u k) (Ship k) (Sent 0) so_far.0 on.3 in
       let books : Begins u.base.booked w.base.booked = subst (λ (l : List (Frame Entry)). Begins l w.base.booked) (sym so_far.1) (Begins-refl w.base.booked) in
       by_moment k u sent books on.4

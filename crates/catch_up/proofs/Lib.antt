@@ -2,3 +2,4 @@ pub mod Numbers
 pub mod PassedNumbers
 pub mod Courses
 pub mod OnWay
+pub mod Completing

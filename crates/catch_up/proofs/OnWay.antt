@@ -16,7 +16,7 @@ use Rattle.node_journal.specs.declared.frame.TheConstants.{MOST_FRAMES}
 use Rattle.office_entry.specs.declared.entry.Entry.{Entry}
 use Rattle.office_state.specs.declared.limits.Limits.{Limits}
 use Rattle.pair_core.specs.Pair.{Shows, Does, IsCall, PassMoments, LeavesJournal, LeavesDuties, disk_at, node_of, is_node_up, len_of, is_up, bounds_of, counts_of}
-use Rattle.pair_core.specs.PairAnswers.{Unless, IsPassed, KeepsCourse, PassRest, PassCauses, fault_told, told, passed_told}
+use Rattle.pair_core.specs.PairAnswers.{Unless, IsPassed, KeepsCourse, SameNode, SameSent, KeepsSound, PassRest, PassCauses, fault_told, told, passed_told}
 use Rattle.pair_core.specs.PairPassing.{pass_row}
 use Rattle.pair_core.specs.PairRefusals as rows
 use Rattle.pair_core.specs.PairRefusals.{first_of, or_first}
@@ -71,6 +71,7 @@ pub record IsOnWay {D : Type 0} (state : D → DiskState) (old now : Pair D) (ne
   pub up : is_up now ≡ true
   pub up_holder : is_node_up now (rows.holder old) ≡ true
   pub up_other : is_node_up now (other (rows.holder old)) ≡ true
+  pub sent : SameSent old now
   pub epochs : epochs_at now (rows.holder old) ≡ epochs_at old (rows.holder old)
   pub within : Within (epochs_at now (rows.holder old)) (epochs_at now (other (rows.holder old))) next
   pub end : next ≡ None → HasCaughtUp now (rows.holder old) (len_of now (rows.holder old))
@@ -172,6 +173,14 @@ refused_does state p f is limits w shown lawful =
 pub refused_causes : {D : Type 0} (state : D → DiskState) (p : Pair D) (f : PairFault) → catch_up_refusal p ≡ Some f → CatchUpCauses state p p (Err f)
 refused_causes {D} state p f is = subst (λ (o : Option PairFault). Unless {P = Pair D} {T = ℕ} o p p (Err f) (CatchUpRest state p p (rows.holder p) (Err f))) (sym is) (refl, refl)
 
+pub refused_beside : {D : Type 0} (p : Pair D) (f : PairFault) → SameSent p p × KeepsSound p p f
+refused_beside p f = (refl, by_fault f)
+  where
+    by_fault : (f : PairFault) → KeepsSound p p f
+    by_fault (fault.Fault disk) = λ n not. refl
+    by_fault (fault.Damaged disk frame) = λ n not. refl
+    by_fault f = tt
+
 -- ---- the beginning
 
 -- where there is no refusal, the register is up, and so are both nodes
@@ -196,6 +205,7 @@ first_on_way state p next sound none is = subst (IsOnWay state p p) (sym is) (re
   up = (are_up p none).register;
   up_holder = (are_up p none).holder;
   up_other = (are_up p none).beside;
+  sent = refl;
   epochs = refl;
   within = (omega arith, omega arith, omega arith);
   end = λ e. absurd (cc);
@@ -366,6 +376,7 @@ module _ {D : Type 0} (state : D → DiskState) (old now new : Pair D) (k : ℕ)
           up = rest.2.2 ∙ way.up;
           up_holder = rest.0.1;
           up_other = rest.1.1;
+          sent = is.sent ∙ way.sent;
           epochs = is.epochs ∙ way.epochs;
           within = subst (λ (es : List ℕ). Within es (epochs_at new (other (rows.holder old))) (after it)) (sym is.epochs) (stays_within (epochs_at now (rows.holder old)) (epochs_at now (other (rows.holder old))) (epochs_at new (other (rows.holder old))) k way.within it says);
           end = end_on it says is;
@@ -470,6 +481,24 @@ module _ {D : Type 0} (state : D → DiskState) (old now new : Pair D) (k : ℕ)
 
       pub ends_course : (f : PairFault) → PassCauses state now new k (Err f) → KeepsCourse state old new
       ends_course f causes = fault_course f (rest_of (Err f) causes)
+
+      -- both nodes were up so far
+      nodes_so_far : (n : NodeName) → SameNode old now n
+      nodes_so_far n = by_name (rows.holder old) n refl
+        where
+          by_name : (h n : NodeName) → h ≡ rows.holder old → SameNode old now n
+          by_name A A is = subst (SameNode old now) (sym is) (way.up_holder ∙ sym (are_up old none).holder)
+          by_name A B is = subst (λ h. SameNode old now (other h)) (sym is) (way.up_other ∙ sym (are_up old none).beside)
+          by_name B A is = subst (λ h. SameNode old now (other h)) (sym is) (way.up_other ∙ sym (are_up old none).beside)
+          by_name B B is = subst (SameNode old now) (sym is) (way.up_holder ∙ sym (are_up old none).holder)
+
+      pub ends_beside : (f : PairFault) → SameSent now new × KeepsSound now new f → SameSent old new × KeepsSound old new f
+      ends_beside f keeps = (keeps.0 ∙ way.sent, by_fault f keeps.1)
+        where
+          by_fault : (f : PairFault) → KeepsSound now new f → KeepsSound old new f
+          by_fault (fault.Fault disk) sound = λ n not. sound n not ∙ nodes_so_far n
+          by_fault (fault.Damaged disk frame) sound = λ n not. sound n not ∙ nodes_so_far n
+          by_fault f sound = tt
 
       pub ends_call : IsCall state old new
       ends_call = call_on call

@@ -1,7 +1,7 @@
 //! The holder passes its frames on, until the other node has the end.
 ghost use Rattle.std.specs.Prelude.{◌≡◌, ◌+◌, min, true, is_some, Some};
 ghost use Rattle.pair_core.specs.Pair.{IsCall, len_of};
-ghost use Rattle.pair_core.specs.PairAnswers.{KeepsCourse};
+ghost use Rattle.pair_core.specs.PairAnswers.{KeepsCourse, PassKeeps};
 ghost use Rattle.pair_core.specs.PairRefusals.{holder};
 ghost use Rattle.pair_world.specs.World as worlds;
 ghost use Rattle.catch_up.specs.CatchUpAnswers.{CatchesUpDoes, CatchUpMoments, CatchUpCauses, answer_of, first_of_pair};
@@ -19,6 +19,7 @@ pub fn catch_up<D: Disk + Drop>(pair: &mut Pair<D>) -> Result<u32, PairFault>
     ensures causes { CatchUpCauses D.state pair.old pair.new result }
     ensures call { IsCall D.state pair.old pair.new }
     ensures keeps { KeepsCourse D.state pair.old pair.new }
+    ensures beside { PassKeeps pair.old pair.new result }
 {
     if let Some(refusal) = pair.catch_up_refusal() {
         return Err(refusal);

@@ -1,8 +1,9 @@
--- Where the node is up and no disk fails, a BATCH books all that is left of its job, and ends with the job's reply.
-use Rattle.std.proofs.Common.{◌≡◌, ℕ, zero, suc, ◌<◌, ◌≤◌, inl, inr, Bool, true, false, nat_lt, List, [], ◌∷◌, ◌++◌, length, take, refl, ap, sym, ◌∙◌, subst, arith, Option, Some, None, Result, Ok, Err, option_map, if◌then◌else◌}
+-- Where the holder is up and can book, and no disk fails, a BATCH books all that is left of its job, and ends with the job's reply.
+use Rattle.std.proofs.Common.{◌≡◌, ℕ, zero, suc, ◌<◌, ◌≤◌, inl, inr, Bool, true, false, not, nat_lt, List, [], ◌∷◌, ◌++◌, length, take, refl, ap, sym, ◌∙◌, subst, arith, Option, Some, None, Result, Ok, Err, if◌then◌else◌}
 use Rattle.std.proofs.lemmas.Bool.{le-ltb}
 use Rattle.std.proofs.lemmas.List.{append-nil, append_assoc, length_push, length-append, length-map, take_all, map-append}
 use Rattle.std.proofs.lemmas.List.Sums.{fold-append}
+use Rattle.ali_base.specs.declared.duty.Mode.{Mode}
 use Rattle.ali_base.specs.declared.duty.Mode.TheVariants.{Both, Alone}
 use Rattle.ali_base.specs.declared.names.DiskName.{DiskName}
 use Rattle.ali_base.specs.declared.names.NodeName.{NodeName}
@@ -13,37 +14,43 @@ use Rattle.batch_desk.specs.Jobs.{job_standing, next_of, entries_left}
 use Rattle.batch_desk.specs.declared.job.Job.{Job}
 use Rattle.batch_desk.specs.declared.job.Job.TheVariants as jobs
 use Rattle.batch_desk.proofs.Steps.{IsStep, step, ready, none_left, next_or_complete}
+use Rattle.catch_up.proofs.Completing.{holder_stays, put_there}
+use Rattle.office_commands.specs.Commands.{Batch}
 use Rattle.office_entry.specs.declared.entry.Entry.{Entry}
 use Rattle.office_entry.specs.declared.entry.Entry.TheVariants as entry
 use Rattle.office_state.specs.History.{state}
 use Rattle.office_state.specs.OfficeState.{State, office_limits, empty_state}
 use Rattle.office_state.specs.Verdict.{after}
-use Rattle.pair_world.specs.Changes.{written, booked_next}
+use Rattle.pair_core.specs.PairPassing.{pass_row}
+use Rattle.pair_world.specs.Changes.{written, booked_next, new_duty, duty_changed}
 use Rattle.pair_world.specs.Frames.{Frame, entries}
 use Rattle.pair_world.specs.Refusals as refusals
-use Rattle.pair_world.specs.Refusals.{Refusal}
+use Rattle.pair_world.specs.Refusals.{Refusal, Down, disk_of, is_alone}
 use Rattle.pair_world.specs.SoundWorld.{Booked}
-use Rattle.pair_world.specs.World.{NodeState, Nodes, node_at, put_node, holder_journal, pending}
-use Rattle.pair_world.proofs.ExactRows.{book_passed}
-use Rattle.pair_world.proofs.RowTests.{up_passes, lt_passes, le_passes}
+use Rattle.pair_world.specs.World.{World, NodeState, Nodes, node_at, put_node, other, is_node, is_up, holder_journal, pending}
+use Rattle.pair_world.proofs.ExactRows.{book_passed, take_passed}
+use Rattle.pair_world.proofs.RowTests.{passes, up_passes, lt_passes, le_passes}
 use Rattle.pair_world.proofs.SoundSteps.{base_has_parts}
 use Rattle.sequence_once.specs.declared.standing.CycleFault.{CycleFault}
 use Rattle.sequence_once.specs.declared.standing.Standing.{Standing}
 use Rattle.sequence_once.specs.declared.standing.Standing.TheVariants.{New, Resume, Complete}
 use Rattle.world_rows.specs.Counts.{Counts, NoneRose}
 use Rattle.world_rows.specs.Histories.{due_after}
-use Rattle.world_rows.specs.Rows.{Row, Success, Gives}
+use Rattle.world_rows.specs.Rows.{Row, Gives}
+use Rattle.world_rows.specs.Told.{Told as WorldTold}
 use Rattle.world_rows.specs.Told as told
 use Rattle.world_rows.specs.WorldRows.{verdict_of}
-use Rattle.world_rows.proofs.Rows.{one_reply}
-use Rattle.command_machine.specs.CommandRows.{refused, not_next, finished, append_row, job_row, found_row}
-use Rattle.command_machine.specs.Commands.{Batch}
-use Rattle.command_machine.specs.Courses.{Event, First, Writes, Books, row_of, then_comes, told_of}
-use Rattle.command_machine.specs.Laws.{IsUsable, CanBatch}
-use Rattle.command_machine.specs.Machine.{Machine, Moment, IsLawful, HasJob, office_bounds, holder_of, count_of, state_of, with_world}
+use Rattle.world_rows.proofs.Rows.{gives_in, one_reply}
+use Rattle.command_machine.specs.CommandRows.{refused, not_next, finished, append_row, job_row, event_row}
+use Rattle.command_machine.specs.Courses.{Event, First, Writes, Passes, Goes_alone, Books, row_of, is_disk_of, then_comes, told_of}
+use Rattle.command_machine.specs.Laws.{IsUsable, CanBook, CanBatch, MayTell}
+use Rattle.command_machine.specs.Machine.{Machine, Moment, IsLawful, HasJob, office_bounds, holder_of, mirror_of, count_of, state_of, with_world}
 use Rattle.command_machine.specs.Replies.{Reply, Told, Finished}
 use Rattle.command_machine.specs.Steps.{Course, GoesOn, Moves, Runs, begun, over, Steps}
-use Rattle.command_machine.proofs.Lawful.{moves_keep, kept_of}
+use Rattle.command_machine.proofs.FoundJobs.{shut, event_shut, finishes, finds}
+use Rattle.command_machine.proofs.Lawful.{AllowedIn, moves_keep, kept_of}
+use Rattle.command_machine.proofs.OneReply.{one_last, has_reply}
+use Rattle.command_machine.proofs.PassedOn.{passed_down, passed, passed_up, passed_reaches}
 use Rattle.command_machine.proofs.Undoubted.{calm_first, calm_rest, move_counts, runs_never_fall}
 
 -- a job with a next entry is not complete, and its standing is no fault
@@ -64,21 +71,26 @@ goes_on : (s : State) (job : Job) (e : Entry) → next_of s job ≡ Ok e → (fi
 goes_on s (jobs.File bytes) e next = next_of_file s bytes e (file_standing s bytes) next
 goes_on s (jobs.Edit editor serial edit) e next = next_of_edit s (jobs.Edit editor serial edit) (entry.Edit editor serial edit) e (edit_standing s editor serial edit) next
 
-shut : (o : Option Refusal) → o ≡ None → refused o ≡ None
-shut o e = ap (λ (o : Option Refusal). refused o) e
+-- ---- nodes
 
-event_shut : (o : Option Refusal) → o ≡ None → option_map Told (option_map told.Refused o) ≡ None
-event_shut o e = ap (λ (o : Option Refusal). option_map Told (option_map told.Refused o)) e
+-- the other node's state stays
+mirror_stays : (nodes : Nodes Entry) (n : NodeName) (state : NodeState Entry) → node_at (put_node nodes n state) (other n) ≡ node_at nodes (other n)
+mirror_stays nodes A state = refl
+mirror_stays nodes B state = refl
 
-put_there : (nodes : Nodes Entry) (n : NodeName) (state : NodeState Entry) → node_at (put_node nodes n state) n ≡ state
-put_there nodes A state = refl
-put_there nodes B state = refl
+own : (n : NodeName) → not (is_node n n) ≡ false
+own A = refl
+own B = refl
+
+own_disk : (n : NodeName) → is_disk_of n (disk_of n) ≡ true
+own_disk A = refl
+own_disk B = refl
 
 -- what a batch rests on: the job, of which so much is booked and the rest is left
 record IsOnWay (job : Job) (all : List Entry) (m : Machine) : Type 0 where
   lawful : IsLawful m
   usable : IsUsable m
-  alone : m.world.base.duty.mode ≡ Alone
+  can_book : CanBook m
   has_job : m.job ≡ Some job
   free : length (holder_journal m.world.base) ≡ count_of m
   found : Standing
@@ -90,7 +102,7 @@ record IsOnWay (job : Job) (all : List Entry) (m : Machine) : Type 0 where
 record IsPending (job : Job) (all : List Entry) (m : Machine) : Type 0 where
   lawful : IsLawful m
   usable : IsUsable m
-  alone : m.world.base.duty.mode ≡ Alone
+  can_book : CanBook m
   has_job : m.job ≡ Some job
   frame : Frame Entry
   journal : holder_journal m.world.base ≡ m.world.base.booked ++ frame ∷ []
@@ -99,30 +111,29 @@ record IsPending (job : Job) (all : List Entry) (m : Machine) : Type 0 where
   all_is : entries m.world.base.booked ++ frame.entry ∷ entries_left (after (state_of m) frame.entry) job ≡ all
   room : length all ≤ office_bounds.frames
 
--- a BATCH of a complete job finds it so
-pub finishes : (before now : Counts) (m : Machine) (job : Job) → IsUsable m → m.job ≡ Some job → job_standing (state_of m) job ≡ Ok Complete → (lasted : Bool)
-    → Gives before now (λ (disk : DiskName). Told (told.Failed disk)) m (row_of lasted m (First Batch)) (Finished (state_of m) job) m
-unfolding row_of
-finishes before now m job usable has_job complete lasted = inr (shut _ (up_passes m.world.register_up _ usable.register), inr (shut _ (up_passes (node_at m.world.base.nodes (holder_of m)).up _ usable.up), by_job))
-  where
-    by_job : Gives before now (λ (disk : DiskName). Told (told.Failed disk)) m (found_row m true m.job (Success (Told told.Ready) m)) (Finished (state_of m) job) m
-    by_job =
-        subst (λ (o : Option Job). Gives before now (λ (disk : DiskName). Told (told.Failed disk)) m (found_row m true o (Success (Told told.Ready) m)) (Finished (state_of m) job) m) (sym has_job)
-        (inr (inl (ap (λ (r : Result Standing CycleFault). finished (state_of m) job r) complete, refl)))
+-- the other node has the pending entry, where there is need of it
+abbrev IsStored : Machine → Type 0
+IsStored m = m.world.base.duty.mode ≡ Both → count_of m < m.world.base.acked
+
+-- the holder is not alone, and can be
+abbrev CanLeave : Machine → Type 0
+CanLeave m = (m.world.base.duty.mode ≡ Both) × (m.world.base.duty.epoch < office_bounds.last_epoch)
 
 module _ (job : Job) (all : List Entry) where
-  -- a batch before this event; where it is over, all is booked and the job's reply is told
+  -- a batch before this event; where it is over, all is booked and the job's reply is told last
   abbrev IsAt : Machine → Option Event → List Reply → Type 0
-  IsAt m None said = (said ≡ Finished (state_of m) job ∷ []) × (entries m.world.base.booked ≡ all)
-  IsAt m (Some (First Batch)) said = IsOnWay job all m × (said ≡ [])
-  IsAt m (Some (Writes true)) said = IsOnWay job all m × ((e : Entry) × (next_of (state_of m) job ≡ Ok e)) × (said ≡ [])
-  IsAt m (Some (Books true)) said = IsPending job all m × (said ≡ [])
+  IsAt m None said = ((before : List Reply) × (said ≡ before ++ Finished (state_of m) job ∷ [])) × (entries m.world.base.booked ≡ all)
+  IsAt m (Some (First Batch)) said = IsOnWay job all m
+  IsAt m (Some (Writes true)) said = IsOnWay job all m × ((e : Entry) × (next_of (state_of m) job ≡ Ok e))
+  IsAt m (Some (Passes true)) said = IsPending job all m × (m.world.base.duty.mode ≡ Both)
+  IsAt m (Some (Goes_alone true)) said = IsPending job all m × CanLeave m
+  IsAt m (Some (Books true)) said = IsPending job all m × IsStored m
   IsAt m (Some event) said = ⊥
 
   -- what the reply and the machine of an event are, decides what comes
-  settled : (c d : Course) (event : Event) (moves : GoesOn c event d) (reply : Reply) (m : Machine) → c.told ≡ [] → moves.reply ≡ reply → d.moment.machine ≡ m → IsAt m (then_comes event m reply) (told_of event reply) → IsAt d.moment.machine d.event d.told
-  settled c d event moves reply m said same machine at =
-      let told_is : d.told ≡ told_of event reply = moves.told ∙ ap (λ (l : List Reply). l ++ told_of event moves.reply) said ∙ ap (λ (r : Reply). told_of event r) same in
+  settled : (c d : Course) (event : Event) (moves : GoesOn c event d) (reply : Reply) (m : Machine) → moves.reply ≡ reply → d.moment.machine ≡ m → IsAt m (then_comes event m reply) (c.told ++ told_of event m reply) → IsAt d.moment.machine d.event d.told
+  settled c d event moves reply m same machine at =
+      let told_is : d.told ≡ c.told ++ told_of event m reply = moves.told ∙ ap (λ (x : Machine). c.told ++ told_of event x moves.reply) machine ∙ ap (λ (r : Reply). c.told ++ told_of event m r) same in
       let next_is : d.event ≡ then_comes event m reply = moves.next ∙ ap (λ (x : Machine). then_comes event x moves.reply) machine ∙ ap (λ (r : Reply). then_comes event m r) same in
       subst (λ (x : Machine). IsAt x d.event d.told) (sym machine)
       (subst (λ (o : Option Event). IsAt m o d.told) (sym next_is)
@@ -132,14 +143,13 @@ module _ (job : Job) (all : List Entry) where
     abbrev GivesIn : Row Reply Machine → Reply → Machine → Type 0
     GivesIn row reply v = Gives before now (λ (disk : DiskName). Told (told.Failed disk)) m row reply v
 
-    module _ (on : IsOnWay job all m) where
-      finds : finished (state_of m) job (job_standing (state_of m) job) ≡ None → (lasted : Bool) → GivesIn (row_of lasted m (First Batch)) (Told told.Ready) m
-      unfolding row_of
-      finds left lasted = inr (shut _ (up_passes m.world.register_up _ on.usable.register), inr (shut _ (up_passes (node_at m.world.base.nodes (holder_of m)).up _ on.usable.up), by_job))
-        where
-          by_job : GivesIn (found_row m true m.job (Success (Told told.Ready) m)) (Told told.Ready) m
-          by_job = subst (λ (o : Option Job). GivesIn (found_row m true o (Success (Told told.Ready) m)) (Told told.Ready) m) (sym on.has_job) (inr (inr (left, (refl, refl))))
+    -- what an event of the world gives
+    world_gives : (row : Row WorldTold (World Entry)) (said : WorldTold) (v : World Entry) → Gives before now told.Failed m.world row said v → GivesIn (event_row m row) (Told said) (with_world m v)
+    world_gives row said v gives = gives_in Told (with_world m) before now told.Failed m.world row said v gives
 
+    -- ---- the next entry is written
+
+    module _ (on : IsOnWay job all m) where
       journal_is : holder_journal m.world.base ≡ m.world.base.booked
       journal_is =
           let parts = base_has_parts (due_after office_limits) m.world on.lawful.world.sound in
@@ -182,11 +192,19 @@ module _ (job : Job) (all : List Entry) where
             let free : length (holder_journal m.world.base) ≤ count_of m = (let f = on.free in omega arith) in
             inr (
               shut _ (up_passes m.world.register_up _ on.usable.register),
-              inr (shut _ (up_passes (node_at m.world.base.nodes (holder_of m)).up _ on.usable.up), inr (shut _ (lt_passes (count_of m) (length (holder_journal m.world.base)) _ free), rest)),
+              inr (
+                shut _ (up_passes (node_at m.world.base.nodes (holder_of m)).up _ on.usable.up),
+                inr (shut _ (passes _ _ (own (holder_of m))), inr (shut _ (lt_passes (count_of m) (length (holder_journal m.world.base)) _ free), rest)),
+              ),
             )
 
         abbrev next_frame : Frame Entry
         next_frame = record { entry = e; epoch = m.world.base.duty.epoch }
+
+        still_can : CanBook m → CanBook wrote
+        still_can (inl alone) = inl alone
+        still_can (inr (inl up)) = inr (inl (subst (λ (state : NodeState Entry). state.up ≡ true) (sym (mirror_stays m.world.base.nodes (holder_of m) _)) up))
+        still_can (inr (inr left)) = inr (inr left)
 
         is_pending : IsLawful wrote → IsPending job all wrote
         is_pending lawful =
@@ -196,7 +214,7 @@ module _ (job : Job) (all : List Entry) where
                 register = on.usable.register;
                 up = subst (λ (state : NodeState Entry). state.up ≡ true) (sym (put_there m.world.base.nodes (holder_of m) _)) on.usable.up;
               };
-              alone = on.alone;
+              can_book = still_can on.can_book;
               has_job = on.has_job;
               frame = next_frame;
               journal =
@@ -208,101 +226,224 @@ module _ (job : Job) (all : List Entry) where
               room = on.room;
             }
 
+        -- a holder that is alone books it at once
+        passed_or_booked_at : IsLawful wrote → (mode : Mode) → m.world.base.duty.mode ≡ mode → (said : List Reply) → IsAt wrote (Some (if is_alone mode then Books true else Passes true)) said
+        passed_or_booked_at lawful Alone is said = (is_pending lawful, λ both. absurd (cc))
+        passed_or_booked_at lawful Both is said = (is_pending lawful, is)
+
+    -- ---- it is passed on
+
     module _ (on : IsPending job all m) where
-      abbrev booked : Machine
-      booked = with_world m (record m.world { base = booked_next m.world.base })
-
-      abbrev booked_reply : Reply
-      booked_reply = Told (told.Booked (suc (count_of m)) (verdict_of (state_of m) (pending m.world.base)))
-
       longer : length (holder_journal m.world.base) ≡ suc (count_of m)
       longer = let j = ap length on.journal in omega (arith, length_push m.world.base.booked on.frame)
 
-      not_both : m.world.base.duty.mode ≡ Both → ⊥
-      not_both both = absurd (let alone = on.alone in cc)
+      module _ (both : m.world.base.duty.mode ≡ Both) where
+        is_longer : count_of m < length (holder_journal m.world.base)
+        is_longer = let l = longer in omega arith
 
-      books : (lasted : Bool) → GivesIn (row_of lasted m (Books true)) booked_reply booked
-      unfolding row_of
-      books lasted =
-          let can = book_passed (due_after office_limits) m.world (on.usable.register, record { up = on.usable.up; pending = (let l = longer in omega arith); stored = λ both. absurd (not_both both) }) in
-          inr (event_shut _ can.0, inr (event_shut _ can.1.0, inr (event_shut _ can.1.1.0, inr (event_shut _ can.1.1.1.0, inr (refl, refl)))))
+        abbrev passed_world : World Entry
+        passed_world = passed m.world on.lawful.world on.usable.register on.usable.up both is_longer before now
 
-      grown : booked.world.base.booked ≡ m.world.base.booked ++ on.frame ∷ []
-      grown =
-          ap (λ (j : List (Frame Entry)). take (suc (count_of m)) j) on.journal
-          ∙ take_all (suc (count_of m)) (m.world.base.booked ++ on.frame ∷ []) (omega (arith, length_push m.world.base.booked on.frame))
+        abbrev passed_machine : Machine
+        passed_machine = with_world m passed_world
 
-      entries_after : entries booked.world.base.booked ≡ entries m.world.base.booked ++ on.frame.entry ∷ []
-      entries_after = ap (λ (h : List (Frame Entry)). entries h) grown ∙ map-append (λ (x : Frame Entry). x.entry) m.world.base.booked (on.frame ∷ [])
+        -- the other node is down: the holder can go on alone
+        can_leave : (node_at m.world.base.nodes (mirror_of m)).up ≡ false → CanBook m → CanLeave m
+        can_leave down (inl alone) = absurd (cc)
+        can_leave down (inr (inl up)) = absurd (cc)
+        can_leave down (inr (inr left)) = (both, left)
 
-      state_after : state_of booked ≡ after (state_of m) on.frame.entry
-      state_after =
-          ap (λ (es : List Entry). state office_limits es) entries_after
-          ∙ fold-append after (empty_state office_limits) (entries m.world.base.booked) (on.frame.entry ∷ [])
-
-      is_on_way : IsLawful booked → IsOnWay job all booked
-      is_on_way lawful =
+        passes_to : IsLawful passed_machine → is_up m.world.base (mirror_of m) → IsPending job all passed_machine × IsStored passed_machine
+        passes_to lawful up = (
           record {
             lawful = lawful;
-            usable = record { register = on.usable.register; up = on.usable.up };
-            alone = on.alone;
+            usable = record {
+              register = on.usable.register;
+              up = subst (λ (state : NodeState Entry). state.up ≡ true) (sym (holder_stays m.world.base.nodes (holder_of m) _)) on.usable.up;
+            };
+            can_book = inr (inl (subst (λ (state : NodeState Entry). state.up ≡ true) (sym (put_there m.world.base.nodes (mirror_of m) _)) up));
             has_job = on.has_job;
-            free = ap length (on.journal ∙ sym grown);
+            frame = on.frame;
+            journal = ap (λ (state : NodeState Entry). state.journal) (holder_stays m.world.base.nodes (holder_of m) _) ∙ on.journal;
             found = on.found;
-            stands = ap (λ (s : State). job_standing s job) state_after ∙ on.stands;
-            all_is =
-                ap (λ (es : List Entry). es ++ entries_left (state_of booked) job) entries_after
-                ∙ append_assoc (entries m.world.base.booked) (on.frame.entry ∷ []) (entries_left (state_of booked) job)
-                ∙ ap (λ (s : State). entries m.world.base.booked ++ on.frame.entry ∷ entries_left s job) state_after
-                ∙ on.all_is;
+            stands = on.stands;
+            all_is = on.all_is;
             room = on.room;
-          }
+          },
+          λ both_still. passed_reaches m.world on.lawful.world on.usable.register on.usable.up both is_longer before now,
+        )
+
+      -- ---- the holder goes on alone
+
+      module _ (can : CanLeave m) where
+        abbrev alone : Machine
+        alone = with_world m (record m.world { base = duty_changed m.world.base (holder_of m) Alone m.world.base.booked })
+
+        abbrev alone_reply : Reply
+        alone_reply = Told (told.On_duty (new_duty m.world.base (holder_of m) Alone (count_of m)))
+
+        goes : (lasted : Bool) → GivesIn (row_of lasted m (Goes_alone true)) alone_reply alone
+        unfolding row_of
+        goes lasted =
+            let open_row = take_passed (due_after office_limits) m.world office_bounds (holder_of m) (on.usable.register, record { up = on.usable.up; both = can.0; epochs_left = can.1 }) in
+            inr (event_shut _ open_row.0, inr (event_shut _ open_row.1.0, inr (event_shut _ open_row.1.1.0, inr (event_shut _ open_row.1.1.1.0, inr (refl, refl)))))
+
+        goes_to : IsLawful alone → IsPending job all alone × IsStored alone
+        goes_to lawful = (
+          record {
+            lawful = lawful;
+            usable = record {
+              register = on.usable.register;
+              up = subst (λ (state : NodeState Entry). state.up ≡ true) (sym (put_there m.world.base.nodes (holder_of m) _)) on.usable.up;
+            };
+            can_book = inl refl;
+            has_job = on.has_job;
+            frame = on.frame;
+            journal = ap (λ (state : NodeState Entry). state.journal) (put_there m.world.base.nodes (holder_of m) _) ∙ on.journal;
+            found = on.found;
+            stands = on.stands;
+            all_is = on.all_is;
+            room = on.room;
+          },
+          λ both. absurd (cc),
+        )
+
+      -- ---- it is booked
+
+      module _ (stored : IsStored m) where
+        abbrev booked : Machine
+        booked = with_world m (record m.world { base = booked_next m.world.base })
+
+        abbrev booked_reply : Reply
+        booked_reply = Told (told.Booked (suc (count_of m)) (verdict_of (state_of m) (pending m.world.base)))
+
+        books : (lasted : Bool) → GivesIn (row_of lasted m (Books true)) booked_reply booked
+        unfolding row_of
+        books lasted =
+            let can = book_passed (due_after office_limits) m.world (on.usable.register, record { up = on.usable.up; pending = (let l = longer in omega arith); stored = stored }) in
+            inr (event_shut _ can.0, inr (event_shut _ can.1.0, inr (event_shut _ can.1.1.0, inr (event_shut _ can.1.1.1.0, inr (refl, refl)))))
+
+        grown : booked.world.base.booked ≡ m.world.base.booked ++ on.frame ∷ []
+        grown =
+            ap (λ (j : List (Frame Entry)). take (suc (count_of m)) j) on.journal
+            ∙ take_all (suc (count_of m)) (m.world.base.booked ++ on.frame ∷ []) (omega (arith, length_push m.world.base.booked on.frame))
+
+        entries_after : entries booked.world.base.booked ≡ entries m.world.base.booked ++ on.frame.entry ∷ []
+        entries_after = ap (λ (h : List (Frame Entry)). entries h) grown ∙ map-append (λ (x : Frame Entry). x.entry) m.world.base.booked (on.frame ∷ [])
+
+        state_after : state_of booked ≡ after (state_of m) on.frame.entry
+        state_after =
+            ap (λ (es : List Entry). state office_limits es) entries_after
+            ∙ fold-append after (empty_state office_limits) (entries m.world.base.booked) (on.frame.entry ∷ [])
+
+        is_on_way : IsLawful booked → IsOnWay job all booked
+        is_on_way lawful =
+            record {
+              lawful = lawful;
+              usable = record { register = on.usable.register; up = on.usable.up };
+              can_book = on.can_book;
+              has_job = on.has_job;
+              free = ap length (on.journal ∙ sym grown);
+              found = on.found;
+              stands = ap (λ (s : State). job_standing s job) state_after ∙ on.stands;
+              all_is =
+                  ap (λ (es : List Entry). es ++ entries_left (state_of booked) job) entries_after
+                  ∙ append_assoc (entries m.world.base.booked) (on.frame.entry ∷ []) (entries_left (state_of booked) job)
+                  ∙ ap (λ (s : State). entries m.world.base.booked ++ on.frame.entry ∷ entries_left s job) state_after
+                  ∙ on.all_is;
+              room = on.room;
+            }
 
   module _ (c d : Course) (none : NoneRose c.moment.counts d.moment.counts) where
-    -- the event's reply and the machine after it are these
-    one : (event : Event) (moves : GoesOn c event d) (reply : Reply) (v : Machine) → GivesIn c.moment.counts d.moment.counts c.moment.machine (row_of moves.lasted c.moment.machine event) reply v → (moves.reply ≡ reply) × (d.moment.machine ≡ v)
-    one event moves reply v gives =
-        one_reply c.moment.counts d.moment.counts (λ (disk : DiskName). Told (told.Failed disk)) c.moment.machine none (row_of moves.lasted c.moment.machine event) moves.reply reply d.moment.machine v moves.gives gives
+    abbrev m : Machine
+    m = c.moment.machine
 
-    first_moves : IsOnWay job all c.moment.machine → c.told ≡ [] → GoesOn c (First Batch) d → IsAt d.moment.machine d.event d.told
-    first_moves on said moves = elim (next_or_complete (state_of m) job on.found on.stands) [
+    abbrev GivesHere : (event : Event) → Bool → Reply → Machine → Type 0
+    GivesHere event lasted reply v = GivesIn c.moment.counts d.moment.counts m (row_of lasted m event) reply v
+
+    -- the event's reply and the machine after it are these
+    one : (event : Event) (moves : GoesOn c event d) (reply : Reply) (v : Machine) → GivesHere event moves.lasted reply v → (moves.reply ≡ reply) × (d.moment.machine ≡ v)
+    one event moves reply v gives =
+        one_reply c.moment.counts d.moment.counts (λ (disk : DiskName). Told (told.Failed disk)) m none (row_of moves.lasted m event) moves.reply reply d.moment.machine v moves.gives gives
+
+    first_moves : IsOnWay job all m → GoesOn c (First Batch) d → IsAt d.moment.machine d.event d.told
+    first_moves on moves = elim (next_or_complete (state_of m) job on.found on.stands) [
       | inl complete ↦ (
-          let same = one (First Batch) moves (Finished (state_of m) job) m (finishes c.moment.counts d.moment.counts m job on.usable on.has_job complete moves.lasted) in
+          let same = one (First Batch) moves (Finished (state_of m) job) m (finishes c.moment.counts d.moment.counts m job on.usable on.has_job moves.lasted complete) in
           let all_booked : entries m.world.base.booked ≡ all = sym (append-nil (entries m.world.base.booked)) ∙ sym (ap (λ (es : List Entry). entries m.world.base.booked ++ es) (none_left (state_of m) job complete)) ∙ on.all_is in
-          settled c d (First Batch) moves (Finished (state_of m) job) m said same.0 same.1 (refl, all_booked))
+          settled c d (First Batch) moves (Finished (state_of m) job) m same.0 same.1 ((c.told, refl), all_booked))
       | inr next ↦ (
           let left = (goes_on (state_of m) job next.0 next.1).0 in
-          let same = one (First Batch) moves (Told told.Ready) m (finds c.moment.counts d.moment.counts m on left moves.lasted) in
+          let same = one (First Batch) moves (Told told.Ready) m (finds c.moment.counts d.moment.counts m job on.usable on.has_job moves.lasted left) in
           let not_flying : nat_lt (count_of m) (length (holder_journal m.world.base)) ≡ false = le-ltb (count_of m) (length (holder_journal m.world.base)) (let f = on.free in omega arith) in
-          let at : IsAt m (then_comes (First Batch) m (Told told.Ready)) [] =
-          subst (λ (b : Bool). IsAt m (Some (if b then Books true else Writes true)) []) (sym not_flying) (on, next, refl)
+          let at : IsAt m (then_comes (First Batch) m (Told told.Ready)) (c.told ++ []) =
+          subst (λ (b : Bool). IsAt m (Some (if b then (if is_alone m.world.base.duty.mode then Books true else Passes true) else Writes true)) (c.told ++ [])) (sym not_flying) (on, next)
           in
-          settled c d (First Batch) moves (Told told.Ready) m said same.0 same.1 at)
+          settled c d (First Batch) moves (Told told.Ready) m same.0 same.1 at)
     ]
-      where
-        m : Machine
-        m = c.moment.machine
 
-    writes_moves : IsOnWay job all c.moment.machine → (e : Entry) → next_of (state_of c.moment.machine) job ≡ Ok e → c.told ≡ [] → GoesOn c (Writes true) d → IsAt d.moment.machine d.event d.told
-    writes_moves on e next said moves =
-        let m = c.moment.machine in
+    -- what a move leaves is lawful
+    lawful_after : (event : Event) → AllowedIn event → IsLawful m → GoesOn c event d → (v : Machine) → d.moment.machine ≡ v → IsLawful v
+    lawful_after event is lawful moves v same = subst (λ (x : Machine). IsLawful x) same (moves_keep c d event is lawful moves).lawful
+
+    writes_moves : IsOnWay job all m → (e : Entry) → next_of (state_of m) job ≡ Ok e → GoesOn c (Writes true) d → IsAt d.moment.machine d.event d.told
+    writes_moves on e next moves =
         let v = wrote c.moment.counts d.moment.counts m on e next in
-        let same = one (Writes true) moves (written_reply c.moment.counts d.moment.counts m on e next) v (writes c.moment.counts d.moment.counts m on e next moves.lasted) in
-        let lawful : IsLawful v = subst (λ (x : Machine). IsLawful x) same.1 (moves_keep c d (Writes true) tt on.lawful moves).lawful in
-        settled c d (Writes true) moves (written_reply c.moment.counts d.moment.counts m on e next) v said same.0 same.1 (is_pending c.moment.counts d.moment.counts m on e next lawful, refl)
+        let reply = written_reply c.moment.counts d.moment.counts m on e next in
+        let same = one (Writes true) moves reply v (writes c.moment.counts d.moment.counts m on e next moves.lasted) in
+        let lawful : IsLawful v = lawful_after (Writes true) tt on.lawful moves v same.1 in
+        settled c d (Writes true) moves reply v same.0 same.1 (passed_or_booked_at c.moment.counts d.moment.counts m on e next lawful m.world.base.duty.mode refl (c.told ++ []))
 
-    books_moves : IsPending job all c.moment.machine → c.told ≡ [] → GoesOn c (Books true) d → IsAt d.moment.machine d.event d.told
-    books_moves on said moves =
-        let m = c.moment.machine in
-        let v = booked c.moment.counts d.moment.counts m on in
-        let same = one (Books true) moves (booked_reply c.moment.counts d.moment.counts m on) v (books c.moment.counts d.moment.counts m on moves.lasted) in
-        let lawful : IsLawful v = subst (λ (x : Machine). IsLawful x) same.1 (moves_keep c d (Books true) tt on.lawful moves).lawful in
-        settled c d (Books true) moves (booked_reply c.moment.counts d.moment.counts m on) v said same.0 same.1 (is_on_way c.moment.counts d.moment.counts m on lawful, refl)
+    -- the other node is up, or it is down
+    passes_moves : IsPending job all m → (both : m.world.base.duty.mode ≡ Both) → GoesOn c (Passes true) d → (up : Bool) → (node_at m.world.base.nodes (mirror_of m)).up ≡ up → IsAt d.moment.machine d.event d.told
+    unfolding row_of
+    passes_moves on both moves true up =
+        let row = pass_row office_limits m.world (suc (count_of m)) in
+        let longer = is_longer c.moment.counts d.moment.counts m on both in
+        let v = passed_machine c.moment.counts d.moment.counts m on both in
+        let gives = passed_up m.world on.lawful.world on.usable.register on.usable.up both longer c.moment.counts d.moment.counts up in
+        elim gives [
+          | inl stored ↦ (
+              let same = one (Passes true) moves (Told (told.Stored _ 0)) v (world_gives c.moment.counts d.moment.counts m row (told.Stored _ 0) _ stored) in
+              let lawful = lawful_after (Passes true) tt on.lawful moves v same.1 in
+              settled c d (Passes true) moves (Told (told.Stored _ 0)) v same.0 same.1 (passes_to c.moment.counts d.moment.counts m on both lawful up))
+          | inr have ↦ (
+              let same = one (Passes true) moves (Told (told.Have _ 0)) v (world_gives c.moment.counts d.moment.counts m row (told.Have _ 0) _ have) in
+              let lawful = lawful_after (Passes true) tt on.lawful moves v same.1 in
+              settled c d (Passes true) moves (Told (told.Have _ 0)) v same.0 same.1 (passes_to c.moment.counts d.moment.counts m on both lawful up))
+        ]
+    passes_moves on both moves false down =
+        let row = pass_row office_limits m.world (suc (count_of m)) in
+        let longer = is_longer c.moment.counts d.moment.counts m on both in
+        let lost : WorldTold = told.Refused (Down (disk_of (mirror_of m))) in
+        let gives = passed_down m.world on.lawful.world on.usable.register on.usable.up both longer c.moment.counts d.moment.counts down in
+        let same = one (Passes true) moves (Told lost) m (world_gives c.moment.counts d.moment.counts m row lost m.world gives) in
+        settled c d (Passes true) moves (Told lost) m same.0 same.1
+        (subst (λ (b : Bool). IsAt m (if b then Some (Goes_alone true) else None) (c.told ++ Told lost ∷ [])) (sym (own_disk (mirror_of m)))
+        (on, can_leave c.moment.counts d.moment.counts m on both down on.can_book))
 
-    move_goes : (o : Option Event) → IsAt c.moment.machine o c.told → Moves c o d → IsAt d.moment.machine d.event d.told
+    goes_moves : IsPending job all m → CanLeave m → GoesOn c (Goes_alone true) d → IsAt d.moment.machine d.event d.told
+    goes_moves on can moves =
+        let v = alone c.moment.counts d.moment.counts m on can in
+        let reply = alone_reply c.moment.counts d.moment.counts m on can in
+        let same = one (Goes_alone true) moves reply v (goes c.moment.counts d.moment.counts m on can moves.lasted) in
+        let lawful : IsLawful v = lawful_after (Goes_alone true) tt on.lawful moves v same.1 in
+        settled c d (Goes_alone true) moves reply v same.0 same.1 (goes_to c.moment.counts d.moment.counts m on can lawful)
+
+    books_moves : IsPending job all m → IsStored m → GoesOn c (Books true) d → IsAt d.moment.machine d.event d.told
+    books_moves on stored moves =
+        let v = booked c.moment.counts d.moment.counts m on stored in
+        let reply = booked_reply c.moment.counts d.moment.counts m on stored in
+        let same = one (Books true) moves reply v (books c.moment.counts d.moment.counts m on stored moves.lasted) in
+        let lawful : IsLawful v = lawful_after (Books true) tt on.lawful moves v same.1 in
+        settled c d (Books true) moves reply v same.0 same.1 (is_on_way c.moment.counts d.moment.counts m on stored lawful)
+
+    move_goes : (o : Option Event) → IsAt m o c.told → Moves c o d → IsAt d.moment.machine d.event d.told
     move_goes None at moves = absurd moves
-    move_goes (Some (First Batch)) at moves = first_moves at.0 at.1 moves
-    move_goes (Some (Writes true)) at moves = writes_moves at.0 at.1.0 at.1.1 at.2 moves
+    move_goes (Some (First Batch)) at moves = first_moves at moves
+    move_goes (Some (Writes true)) at moves = writes_moves at.0 at.1.0 at.1.1 moves
+    move_goes (Some (Passes true)) at moves = passes_moves at.0 at.1 moves (node_at m.world.base.nodes (mirror_of m)).up refl
+    move_goes (Some (Goes_alone true)) at moves = goes_moves at.0 at.1 moves
     move_goes (Some (Books true)) at moves = books_moves at.0 at.1 moves
     move_goes (Some event) at moves = absurd at
 
@@ -315,13 +456,17 @@ module _ (job : Job) (all : List Entry) where
 
 pub batch_ends : (m now : Moment) (job : Job) (found : Standing) (said : List Reply) → IsLawful m.machine → CanBatch m.machine job → job_standing (state_of m.machine) job ≡ Ok found
     → NoneRose m.counts now.counts → Steps m Batch said now
-    → (said ≡ Finished (state_of now.machine) job ∷ []) × (entries now.machine.world.base.booked ≡ entries m.machine.world.base.booked ++ entries_left (state_of m.machine) job)
+    → (before : List Reply) × (said ≡ before ++ Finished (state_of now.machine) job ∷ []) × MayTell m.machine Batch before
+    × (entries now.machine.world.base.booked ≡ entries m.machine.world.base.booked ++ entries_left (state_of m.machine) job)
 batch_ends m now job found said lawful can stands none steps =
     let all = entries m.machine.world.base.booked ++ entries_left (state_of m.machine) job in
     let room : length all ≤ office_bounds.frames =
     (let r = can.room in omega (arith, length-append (entries m.machine.world.base.booked) (entries_left (state_of m.machine) job), length-map m.machine.world.base.booked (λ (x : Frame Entry). x.entry)))
     in
     let on : IsOnWay job all m.machine =
-    record { lawful = lawful; usable = can.usable; alone = can.alone; has_job = can.has_job; free = can.free; found = found; stands = stands; all_is = refl; room = room }
+    record { lawful = lawful; usable = can.usable; can_book = can.can_book; has_job = can.has_job; free = can.free; found = found; stands = stands; all_is = refl; room = room }
     in
-    runs_go job all steps.events (begun m Batch) (over now said) none (on, refl) steps.runs
+    let ends = runs_go job all steps.events (begun m Batch) (over now said) none on steps.runs in
+    let has = has_reply m now said Batch steps in
+    let last : has.1 ≡ Finished (state_of now.machine) job = one_last has.0 ends.0.0 has.1 (Finished (state_of now.machine) job) (sym has.2 ∙ ends.0.1) in
+    (has.0, has.2 ∙ ap (λ (r : Reply). has.0 ++ r ∷ []) last, has.3, ends.1)

@@ -1,8 +1,9 @@
 -- A BATCH of a job that is complete finds it so at once, and books nothing.
-use Rattle.std.proofs.Common.{◌≡◌, ℕ, zero, suc, inl, inr, Bool, true, false, nat_lt, List, [], ◌∷◌, ◌++◌, length, drop, refl, ap, sym, ◌∙◌, subst, Option, Some, None, Result, Ok, Err, option_map, if◌then◌else◌}
+use Rattle.std.proofs.Common.{◌≡◌, ℕ, zero, suc, inl, inr, Bool, true, false, nat_lt, List, [], ◌∷◌, ◌++◌, length, drop, refl, ap, sym, ◌∙◌, subst, Option, Some, None, Result, Ok, Err, if◌then◌else◌}
 use Rattle.std.proofs.lemmas.List.Elements.{recursion_from_All}
 use Rattle.std.proofs.lemmas.List.{take-append-drop, map-append}
 use Rattle.ali_base.specs.declared.names.DiskName.{DiskName}
+use Rattle.ali_base.specs.declared.names.NodeName.{NodeName}
 use Rattle.batch_desk.specs.Jobs.{IsStillKept, job_standing, next_of}
 use Rattle.batch_desk.specs.JobReplies.{job_reply}
 use Rattle.batch_desk.specs.declared.job.Job.{Job}
@@ -11,9 +12,10 @@ use Rattle.office_entry.specs.declared.entry.Entry.{Entry}
 use Rattle.office_state.specs.History.{IsLegal, state}
 use Rattle.office_state.specs.OfficeState.{State, office_limits}
 use Rattle.office_state.specs.declared.due_fault.DueFault.{DueFault}
+use Rattle.pair_core.specs.PairPassing.{pass_row}
 use Rattle.pair_world.specs.Frames.{Frame, entries}
-use Rattle.pair_world.specs.Refusals.{Refusal}
-use Rattle.pair_world.specs.World.{holder_journal}
+use Rattle.pair_world.specs.Refusals.{Refusal, Down, is_alone}
+use Rattle.pair_world.specs.World.{World, holder_journal}
 use Rattle.pair_world.proofs.Items.{none_some}
 use Rattle.sequence_once.specs.declared.standing.CycleFault.{CycleFault}
 use Rattle.sequence_once.specs.declared.standing.Standing.{Standing}
@@ -22,19 +24,21 @@ use Rattle.world_rows.specs.Counts.{Counts, NoneRose}
 use Rattle.world_rows.specs.Rows.{Row, Success, Gives}
 use Rattle.world_rows.specs.Told.{Told as WorldTold}
 use Rattle.world_rows.specs.Told as told
-use Rattle.world_rows.specs.WorldRows.{book_row}
+use Rattle.world_rows.specs.WorldRows.{alone_row, book_row}
 use Rattle.world_rows.proofs.Rows.{one_reply}
 use Rattle.command_machine.specs.CommandRows.{refused, not_next, finished, append_row, job_row, write_row, found_row, next_row, event_row}
-use Rattle.command_machine.specs.Commands as commands
-use Rattle.command_machine.specs.Commands.{Command, IsCommand, Batch}
-use Rattle.command_machine.specs.Courses.{Event, First, Writes, Books, row_of, then_comes, told_of}
-use Rattle.command_machine.specs.Machine.{Machine, Moment, count_of, state_of}
+use Rattle.office_commands.specs.Commands as commands
+use Rattle.office_commands.specs.Commands.{Command, IsCommand, Batch}
+use Rattle.command_machine.specs.Courses.{Event, First, Writes, Passes, Goes_alone, Books, Catches_up, row_of, passed_or_booked, is_disk_of, then_comes, told_of}
+use Rattle.command_machine.specs.Machine.{Machine, Moment, office_bounds, holder_of, mirror_of, count_of, state_of, with_world}
 use Rattle.command_machine.specs.Replies.{Reply, Told, Finished}
 use Rattle.command_machine.specs.ReplyText.{reply_text}
 use Rattle.command_machine.specs.Steps.{Course, GoesOn, Moves, Runs, begun, over, Steps}
 use Rattle.command_machine.specs.Laws.{IsUsable, IsReadAgain}
-use Rattle.command_machine.proofs.Batches.{finishes}
+use Rattle.command_machine.proofs.EventRows.{gives_out}
+use Rattle.command_machine.proofs.FoundJobs.{finishes}
 use Rattle.command_machine.proofs.Lawful.{legal_of, step_keeps, replies_keep}
+use Rattle.command_machine.proofs.OneReply.{one_last}
 
 -- a reply of the world is not that of a finished job
 not_told : (s : State) (job : Job) (t : WorldTold) → Finished s job ≡ Told t → ⊥
@@ -43,10 +47,6 @@ not_told s job t e = absurd (cc)
 refused_not : (o : Option Refusal) (s : State) (job : Job) → refused o ≡ Some (Finished s job) → ⊥
 refused_not None s job e = none_some (Finished s job) e
 refused_not (Some r) s job e = absurd (cc)
-
-event_not : (o : Option Refusal) (s : State) (job : Job) → option_map Told (option_map told.Refused o) ≡ Some (Finished s job) → ⊥
-event_not None s job e = none_some (Finished s job) e
-event_not (Some r) s job e = absurd (cc)
 
 not_next_not : (s : State) (job : Job) (r : Result Standing CycleFault) (t : State) (other : Job) → not_next s job r ≡ Some (Finished t other) → ⊥
 not_next_not s job (Ok New) t other e = none_some (Finished t other) e
@@ -102,19 +102,17 @@ module _ (before now : Counts) (m v : Machine) where
   job_finished s job (Some found) (inr (inr (new, inl g))) = refused_not _ s job g.0
   job_finished s job (Some found) (inr (inr (new, inr (full, g)))) = append_finished s job (next_of (state_of m) found) g
 
-  write_finished : (s : State) (job : Job) → GivesIn (write_row m) (Finished s job) → ⊥
-  write_finished s job (inl g) = refused_not _ s job g.0
-  write_finished s job (inr (up, inl g)) = refused_not _ s job g.0
-  write_finished s job (inr (up, inr (node, inl g))) = refused_not _ s job g.0
-  write_finished s job (inr (up, inr (node, inr (free, g)))) = job_finished s job m.job g
+  write_finished : (s : State) (job : Job) (n : NodeName) → GivesIn (write_row m n) (Finished s job) → ⊥
+  write_finished s job n (inl g) = refused_not _ s job g.0
+  write_finished s job n (inr (up, inl g)) = refused_not _ s job g.0
+  write_finished s job n (inr (up, inr (node, inl g))) = refused_not _ s job g.0
+  write_finished s job n (inr (up, inr (node, inr (own, inl g)))) = refused_not _ s job g.0
+  write_finished s job n (inr (up, inr (node, inr (own, inr (free, g))))) = job_finished s job m.job g
 
-  book_finished : (s : State) (job : Job) → GivesIn (event_row m (book_row office_limits m.world)) (Finished s job) → ⊥
-  book_finished s job (inl g) = event_not _ s job g.0
-  book_finished s job (inr (up, inl g)) = event_not _ s job g.0
-  book_finished s job (inr (up, inr (node, inl g))) = event_not _ s job g.0
-  book_finished s job (inr (up, inr (node, inr (pending, inl g)))) = event_not _ s job g.0
-  book_finished s job (inr (up, inr (node, inr (pending, inr (stored, inl g))))) = not_told s job _ g.0
-  book_finished s job (inr (up, inr (node, inr (pending, inr (stored, inr g))))) = not_told s job _ g.0
+  event_finished : (s : State) (job : Job) (row : Row WorldTold (World Entry)) → GivesIn (event_row m row) (Finished s job) → ⊥
+  event_finished s job row g =
+      let given = gives_out Told (with_world m) before now told.Failed m.world row (Finished s job) v g in
+      not_told s job given.reply given.told_is
 
   -- a job that is complete is not gone on with
   found_ready : (job : Job) → job_standing (state_of m) job ≡ Ok Complete → GivesIn (found_row m true (Some job) (Success (Told told.Ready) m)) (Told told.Ready) → ⊥
@@ -133,30 +131,56 @@ module _ (before now : Counts) (m v : Machine) where
 abbrev IsBatch : Event → Type 0
 IsBatch (First Batch) = Unit {0}
 IsBatch (Writes true) = Unit {0}
+IsBatch (Passes true) = Unit {0}
+IsBatch (Goes_alone true) = Unit {0}
 IsBatch (Books true) = Unit {0}
 IsBatch event = ⊥
 
--- nothing is told on the way; a reply of a finished job tells of the job of the machine
+-- a reply of a finished job that comes last tells of the job of the machine
 abbrev Ends : Machine → Option Event → List Reply → Type 0
-Ends m None said = (s : State) (job : Job) → said ≡ Finished s job ∷ [] → IsFinished m s job
-Ends m (Some event) said = (said ≡ []) × IsBatch event
+Ends m None said = (before : List Reply) (s : State) (job : Job) → said ≡ before ++ Finished s job ∷ [] → IsFinished m s job
+Ends m (Some event) said = IsBatch event
 
-found_ends : (m : Machine) (b : Bool) → Ends m (Some (if b then Books true else Writes true)) []
-found_ends m true = (refl, tt)
-found_ends m false = (refl, tt)
+passed_batch : (v : Machine) (said : List Reply) (alone : Bool) → Ends v (Some (if alone then Books true else Passes true)) said
+passed_batch v said true = tt
+passed_batch v said false = tt
 
-head_is : (r s : Reply) → r ∷ [] ≡ s ∷ [] → r ≡ s
-head_is r s e = cc
+found_batch : (v : Machine) (said : List Reply) (pending : Bool) → Ends v (Some (if pending then passed_or_booked true v else Writes true)) said
+found_batch v said true = passed_batch v said (is_alone v.world.base.duty.mode)
+found_batch v said false = tt
 
-ends_next : (event : Event) (v : Machine) (reply : Reply) → IsBatch event → ((s : State) (job : Job) → reply ≡ Finished s job → IsFinished v s job) → Ends v (then_comes event v reply) (told_of event reply)
-ends_next (First Batch) v (Told told.Ready) is last = found_ends v (nat_lt (count_of v) (length (holder_journal v.world.base)))
-ends_next (First commands.Next) v reply is last = absurd is
-ends_next (Writes false) v reply is last = absurd is
-ends_next (Writes true) v (Told (told.Written number epoch)) is last = (refl, tt)
-ends_next (Books true) v (Told (told.Booked number verdict)) is last = (refl, tt)
-ends_next event v reply is last = λ s job same. last s job (head_is reply (Finished s job) same)
+-- what ends a BATCH is told last
+abbrev EndsBy : Machine → Reply → Type 0
+EndsBy v reply = (s : State) (job : Job) → reply ≡ Finished s job → IsFinished v s job
 
-last_of : (c d : Course) (event : Event) → IsBatch event → (moves : GoesOn c event d) (s : State) (job : Job) → moves.reply ≡ Finished s job → IsFinished d.moment.machine s job
+by_last : (v : Machine) (said : List Reply) (reply : Reply) → EndsBy v reply → Ends v None (said ++ reply ∷ [])
+by_last v said reply last = λ before s job same. last s job (one_last said before reply (Finished s job) same)
+
+left_ends : (v : Machine) (said : List Reply) (mirrors : Bool) (t : WorldTold) → EndsBy v (Told t) → Ends v (if mirrors then Some (Goes_alone true) else None) (said ++ Told t ∷ [])
+left_ends v said true t last = tt
+left_ends v said false t last = by_last v said (Told t) last
+
+ends_next : (event : Event) (v : Machine) (said : List Reply) (reply : Reply) → IsBatch event → EndsBy v reply → Ends v (then_comes event v reply) (said ++ told_of event v reply)
+ends_next (First Batch) v said (Told told.Ready) is last = found_batch v (said ++ []) (nat_lt (count_of v) (length (holder_journal v.world.base)))
+ends_next (First commands.Next) v said reply is last = absurd is
+ends_next (First commands.Catch_up) v said reply is last = absurd is
+ends_next (Writes true) v said (Told (told.Written number epoch)) is last = passed_batch v (said ++ []) (is_alone v.world.base.duty.mode)
+ends_next (Writes false) v said reply is last = absurd is
+ends_next (Passes true) v said (Told (told.Refused (Down d))) is last = left_ends v said (is_disk_of (mirror_of v) d) (told.Refused (Down d)) last
+ends_next (Passes true) v said (Told (told.Failed d)) is last = left_ends v said (is_disk_of (mirror_of v) d) (told.Failed d) last
+ends_next (Passes true) v said (Told (told.Behind len number)) is last = tt
+ends_next (Passes true) v said (Told (told.Cut number)) is last = tt
+ends_next (Passes true) v said (Told (told.Stored number made)) is last = tt
+ends_next (Passes true) v said (Told (told.Have number made)) is last = tt
+ends_next (Passes true) v said (Told (told.Have_end number made)) is last = tt
+ends_next (Passes false) v said reply is last = absurd is
+ends_next (Goes_alone true) v said (Told (told.On_duty duty)) is last = tt
+ends_next (Goes_alone false) v said reply is last = absurd is
+ends_next (Books true) v said (Told (told.Booked number verdict)) is last = tt
+ends_next (Catches_up number) v said reply is last = absurd is
+ends_next event v said reply is last = by_last v said reply last
+
+last_of : (c d : Course) (event : Event) → IsBatch event → (moves : GoesOn c event d) → EndsBy d.moment.machine moves.reply
 unfolding row_of
 last_of c d (First Batch) is moves s job same =
     let m = c.moment.machine in
@@ -166,30 +190,43 @@ last_of c d (First Batch) is moves s job same =
 last_of c d (Writes true) is moves s job same =
     let m = c.moment.machine in
     let v = d.moment.machine in
-    absurd (write_finished c.moment.counts d.moment.counts m v s job (subst (λ (r : Reply). GivesIn c.moment.counts d.moment.counts m v (write_row m) r) same moves.gives))
+    absurd (write_finished c.moment.counts d.moment.counts m v s job (holder_of m) (subst (λ (r : Reply). GivesIn c.moment.counts d.moment.counts m v (write_row m (holder_of m)) r) same moves.gives))
+last_of c d (Passes true) is moves s job same =
+    let m = c.moment.machine in
+    let v = d.moment.machine in
+    let row = pass_row office_limits m.world (suc (count_of m)) in
+    absurd (event_finished c.moment.counts d.moment.counts m v s job row (subst (λ (r : Reply). GivesIn c.moment.counts d.moment.counts m v (event_row m row) r) same moves.gives))
+last_of c d (Goes_alone true) is moves s job same =
+    let m = c.moment.machine in
+    let v = d.moment.machine in
+    let row = alone_row office_limits m.world office_bounds in
+    absurd (event_finished c.moment.counts d.moment.counts m v s job row (subst (λ (r : Reply). GivesIn c.moment.counts d.moment.counts m v (event_row m row) r) same moves.gives))
 last_of c d (Books true) is moves s job same =
     let m = c.moment.machine in
     let v = d.moment.machine in
-    absurd (book_finished c.moment.counts d.moment.counts m v s job (subst (λ (r : Reply). GivesIn c.moment.counts d.moment.counts m v (event_row m (book_row office_limits m.world)) r) same moves.gives))
+    let row = book_row office_limits m.world in
+    absurd (event_finished c.moment.counts d.moment.counts m v s job row (subst (λ (r : Reply). GivesIn c.moment.counts d.moment.counts m v (event_row m row) r) same moves.gives))
 last_of c d event is moves s job same = absurd is
 
 move_ends : (c d : Course) (o : Option Event) → Ends c.moment.machine o c.told → Moves c o d → Ends d.moment.machine d.event d.told
 move_ends c d None ends moves = absurd moves
 move_ends c d (Some event) ends moves =
-    let told_is : d.told ≡ told_of event moves.reply = moves.told ∙ ap (λ (l : List Reply). l ++ told_of event moves.reply) ends.0 in
     subst (λ (o : Option Event). Ends d.moment.machine o d.told) (sym moves.next)
-    (subst (λ (l : List Reply). Ends d.moment.machine (then_comes event d.moment.machine moves.reply) l) (sym told_is)
-    (ends_next event d.moment.machine moves.reply ends.1 (last_of c d event ends.1 moves)))
+    (subst (λ (l : List Reply). Ends d.moment.machine (then_comes event d.moment.machine moves.reply) l) (sym moves.told)
+    (ends_next event d.moment.machine c.told moves.reply ends (last_of c d event ends moves)))
 
 runs_end : (n : ℕ) (c d : Course) → Ends c.moment.machine c.event c.told → Runs n c d → Ends d.moment.machine d.event d.told
 runs_end zero c d ends same = subst (λ (x : Course). Ends x.moment.machine x.event x.told) same ends
 runs_end (suc n) c d ends (next, moves, runs) = runs_end n next d (move_ends c next c.event ends moves) runs
 
 -- a BATCH that ends so leaves a machine with the job, complete
-batch_found : (m now : Moment) (s : State) (job : Job) → Steps m Batch (Finished s job ∷ []) now → IsFinished now.machine s job
-batch_found m now s job steps = runs_end steps.events (begun m Batch) (over now (Finished s job ∷ [])) (refl, tt) steps.runs s job refl
+batch_found : (m now : Moment) (before : List Reply) (s : State) (job : Job) → Steps m Batch (before ++ Finished s job ∷ []) now → IsFinished now.machine s job
+batch_found m now before s job steps = runs_end steps.events (begun m Batch) (over now (before ++ Finished s job ∷ [])) tt steps.runs before s job refl
 
-ended : (reply : Reply) (v : Machine) → (reply ≡ Told told.Ready → ⊥) → (then_comes (First Batch) v reply ≡ None) × (told_of (First Batch) reply ≡ reply ∷ [])
+head_is : (r s : Reply) → r ∷ [] ≡ s ∷ [] → r ≡ s
+head_is r s e = cc
+
+ended : (reply : Reply) (v : Machine) → (reply ≡ Told told.Ready → ⊥) → (then_comes (First Batch) v reply ≡ None) × (told_of (First Batch) v reply ≡ reply ∷ [])
 ended (Told told.Ready) v other = absurd (other refl)
 ended reply v other = (refl, refl)
 
@@ -245,9 +282,9 @@ module _ (m now again : Moment) (job : Job) (s : State) (is : IsReadAgain m now 
   still =
       let old = now.machine.world.base.booked in
       let new = again.machine.world.base.booked in
-      let here = step_keeps m now Batch (Finished s job ∷ []) tt is.lawful is.first in
+      let here = step_keeps m now Batch (is.before ++ Finished s job ∷ []) tt is.lawful is.first in
       let there = replies_keep is.commands now again is.told (recursion_from_All IsCommand is.commands is.are) here.lawful is.between in
-      let found = batch_found m now s job is.first in
+      let found = batch_found m now is.before s job is.first in
       let more = drop (length old) new in
       let whole : old ++ more ≡ new = ap (λ (xs : List (Frame Entry)). xs ++ more) (sym there.grows.front) ∙ take-append-drop (length old) new in
       let longer : entries old ++ entries more ≡ entries new = sym (map-append (λ (x : Frame Entry). x.entry) old more) ∙ ap (λ (xs : List (Frame Entry)). entries xs) whole in
@@ -270,7 +307,7 @@ module _ (m now again : Moment) (job : Job) (s : State) (is : IsReadAgain m now 
 
     pub is_answered : IsUsable again.machine → NoneRose again.counts after.counts → said ≡ Finished (state_of again.machine) job ∷ []
     is_answered usable none =
-        let gives = finishes again.counts after.counts again.machine job usable is.has_job still.complete once.lasted in
+        let gives = finishes again.counts after.counts again.machine job usable is.has_job once.lasted still.complete in
         let one = one_reply again.counts after.counts (λ (disk : DiskName). Told (told.Failed disk)) again.machine none (row_of once.lasted again.machine (First Batch)) once.reply (Finished (state_of again.machine) job) after.machine again.machine once.gives gives in
         once.said_is ∙ ap (λ (r : Reply). r ∷ []) one.0
 

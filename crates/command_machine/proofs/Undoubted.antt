@@ -1,29 +1,39 @@
 -- Where no disk is in doubt and none fails, a command has one course.
 use Rattle.std.proofs.Common.{◌≡◌, ℕ, zero, suc, ◌≤◌, inl, inr, Bool, true, false, List, [], ◌∷◌, ◌++◌, length, refl, ap, sym, ◌∙◌, subst, arith, Option, Some, None, Result, Ok, Err}
+use Rattle.ali_base.specs.declared.duty.Duty.{Duty}
 use Rattle.ali_base.specs.declared.names.DiskName.{DiskName}
-use Rattle.ali_base.specs.declared.names.NodeName.TheVariants.{A}
+use Rattle.ali_base.specs.declared.names.DiskName.TheVariants as disk
+use Rattle.ali_base.specs.declared.names.NodeName.{NodeName}
+use Rattle.ali_base.specs.declared.names.NodeName.TheVariants.{A, B}
 use Rattle.batch_desk.specs.Jobs.{next_of}
 use Rattle.batch_desk.specs.declared.job.Job.{Job}
+use Rattle.catch_up.specs.CatchingUp.{first_number}
 use Rattle.office_entry.specs.declared.entry.Entry.{Entry}
+use Rattle.office_state.specs.OfficeState.{office_limits}
 use Rattle.office_state.specs.declared.due_fault.DueFault.{DueFault}
-use Rattle.pair_world.specs.Changes.{started}
-use Rattle.pair_world.specs.Frames.{Frame}
+use Rattle.pair_core.specs.PairPassing.{pass_row, passed_row}
+use Rattle.pair_world.specs.Changes.{shipment, delivered, started, register_started}
+use Rattle.pair_world.specs.Deliveries as answers
+use Rattle.pair_world.specs.Deliveries.{Answer, answer}
+use Rattle.pair_world.specs.Frames.{Frame, item_at}
 use Rattle.pair_world.specs.Refusals as refusals
 use Rattle.pair_world.specs.Refusals.{Test, disk_of}
-use Rattle.pair_world.specs.World.{World, NodeState, node_at, with_node, put_failed_write, picked_node}
+use Rattle.pair_world.specs.World.{World, Resolved, Shipment, Message, Ships, Acks, NodeState, other, told_by, node_at, with_node, failed_write_at, put_failed_write, picked_node, with_failed_duty, recovered}
 use Rattle.pair_world.proofs.Items.{none_some}
 use Rattle.world_rows.specs.Counts.{Counts, count_at, NeverFall, NoneRose}
 use Rattle.world_rows.specs.Rows.{Row, Unless, MayFail, Always, Success, Gives}
 use Rattle.world_rows.specs.Told.{Failed}
 use Rattle.world_rows.specs.Told as told
-use Rattle.world_rows.specs.WorldRows.{unless, journal_at}
+use Rattle.world_rows.specs.WorldRows.{unless, journal_at, answer_row, message_row}
 use Rattle.world_rows.proofs.Rows.{one_reply}
-use Rattle.command_machine.specs.CommandRows.{append_row, job_row, found_row, command_row, event_row}
-use Rattle.command_machine.specs.Commands as commands
-use Rattle.command_machine.specs.Commands.{Command}
-use Rattle.command_machine.specs.Courses.{Event, First, Writes, Books, row_of, then_comes, told_of}
+use Rattle.command_machine.specs.CommandRows.{append_row, job_row, found_row, order_row, command_row, event_row}
+use Rattle.office_commands.specs.Commands as commands
+use Rattle.office_commands.specs.Commands.{Command}
+use Rattle.office_commands.specs.declared.order.Order.{Order}
+use Rattle.office_commands.specs.declared.order.Order.TheVariants as order
+use Rattle.command_machine.specs.Courses.{Event, First, Writes, Passes, Goes_alone, Books, Catches_up, row_of, then_comes, told_of}
 use Rattle.command_machine.specs.Laws.{IsSure}
-use Rattle.command_machine.specs.Machine.{Machine, Moment, state_of}
+use Rattle.command_machine.specs.Machine.{Machine, Moment, state_of, count_of}
 use Rattle.command_machine.specs.Replies.{Reply, Told}
 use Rattle.command_machine.specs.Steps.{Course, Moves, Runs, begun, over, Steps}
 
@@ -85,58 +95,116 @@ module _ (m : Machine) (sure : IsSure m) where
   found_sure true None = sure
   found_sure true (Some job) = sure
 
+  -- events of the world
+
+  passed_sure : (k : ℕ) (x : Shipment Entry) (a : Answer Entry) → LeavesSure (event_row m (passed_row office_limits m.world k x a))
+  passed_sure k x answers.Behind = record { a = sure.a; b = sure.b; duty = sure.duty }
+  passed_sure k x (answers.Cut left) = record { a = sure.a; b = sure.b; duty = sure.duty }
+  passed_sure k x (answers.Stored frame) = record { a = sure.a; b = sure.b; duty = sure.duty }
+  passed_sure k x answers.Have = record { a = sure.a; b = sure.b; duty = sure.duty }
+  passed_sure k x answers.Have_end = record { a = sure.a; b = sure.b; duty = sure.duty }
+
+  pass_sure : (k : ℕ) → LeavesSure (event_row m (pass_row office_limits m.world k))
+  pass_sure k =
+      let x = shipment m.world.base k in
+      passed_sure k x (answer (journal_at m.world (other x.sender)) (told_by x))
+
+  answer_sure : (x : Shipment Entry) (made : ℕ) (base : Resolved Entry) (a : Answer Entry) → LeavesSure (event_row m (answer_row office_limits m.world x made (record m.world { base = base }) a))
+  answer_sure x made base answers.Behind = record { a = sure.a; b = sure.b; duty = sure.duty }
+  answer_sure x made base (answers.Cut left) = record { a = sure.a; b = sure.b; duty = sure.duty }
+  answer_sure x made base (answers.Stored frame) = record { a = sure.a; b = sure.b; duty = sure.duty }
+  answer_sure x made base answers.Have = record { a = sure.a; b = sure.b; duty = sure.duty }
+  answer_sure x made base answers.Have_end = record { a = sure.a; b = sure.b; duty = sure.duty }
+
+  message_sure : (i : ℕ) (o : Option (Message Entry)) → LeavesSure (event_row m (message_row office_limits m.world i o))
+  message_sure i None = tt
+  message_sure i (Some (Ships x)) = answer_sure x (suc (length m.world.base.messages)) (delivered m.world.base (Ships x)) (answer (journal_at m.world (other x.sender)) (told_by x))
+  message_sure i (Some (Acks ack)) = record { a = sure.a; b = sure.b; duty = sure.duty }
+
+  order_sure : (lasted : Bool) (order : Order) → LeavesSure (event_row m (order_row m lasted order))
+  order_sure lasted order.Book = record { a = sure.a; b = sure.b; duty = sure.duty }
+  order_sure lasted (order.Ship n number) = record { a = sure.a; b = sure.b; duty = sure.duty }
+  order_sure lasted (order.Deliver message) = message_sure message (item_at m.world.base.messages message)
+  order_sure lasted (order.Take n) = record { a = sure.a; b = sure.b; duty = sure.duty }
+  order_sure lasted order.Alone = record { a = sure.a; b = sure.b; duty = sure.duty }
+  order_sure lasted order.Pair = record { a = sure.a; b = sure.b; duty = sure.duty }
+  order_sure lasted (order.Stop n) = record { a = sure.a; b = sure.b; duty = sure.duty }
+  order_sure lasted (order.Start A) = record { a = refl; b = sure.b; duty = sure.duty }
+  order_sure lasted (order.Start B) = record { a = sure.a; b = refl; duty = sure.duty }
+  order_sure lasted order.StartDuty = record { a = sure.a; b = sure.b; duty = refl }
+  order_sure lasted order.Status = record { a = sure.a; b = sure.b; duty = sure.duty }
+
   command_sure : (lasted : Bool) (command : Command) → LeavesSure (command_row m lasted command)
-  command_sure lasted (commands.Ask position tn since) = sure
-  command_sure lasted (commands.Report report) = sure
+  command_sure lasted (commands.Ask n position tn since) = sure
+  command_sure lasted (commands.Report n report) = sure
   command_sure lasted (commands.File content) = record { a = sure.a; b = sure.b; duty = sure.duty }
   command_sure lasted (commands.Edit editor serial edit) = record { a = sure.a; b = sure.b; duty = sure.duty }
+  command_sure lasted (commands.Write n) = write_sure m.job
   command_sure lasted commands.Next = found_sure false m.job
   command_sure lasted commands.Batch = found_sure true m.job
-  command_sure lasted commands.Stop = record { a = sure.a; b = sure.b; duty = sure.duty }
-  command_sure lasted commands.Start = record { a = refl; b = sure.b; duty = sure.duty }
+  command_sure lasted commands.Catch_up = pass_sure (first_number m.world)
+  command_sure lasted (commands.Ordered order) = order_sure lasted order
 
   event_sure : (lasted : Bool) (event : Event) → LeavesSure (row_of lasted m event)
   unfolding row_of
   event_sure lasted (First command) = command_sure lasted command
   event_sure lasted (Writes batch) = write_sure m.job
+  event_sure lasted (Passes batch) = pass_sure (suc (count_of m))
+  event_sure lasted (Goes_alone batch) = record { a = sure.a; b = sure.b; duty = sure.duty }
   event_sure lasted (Books batch) = record { a = sure.a; b = sure.b; duty = sure.duty }
+  event_sure lasted (Catches_up number) = pass_sure number
 
   -- whether a failed write lasted does not matter
+
   picked : (o : Option (List (Frame Entry))) (lasted : Bool) (state : NodeState Entry) → o ≡ None → picked_node o lasted state ≡ picked_node o false state
   picked None lasted state e = refl
   picked (Some j) lasted state e = absurd (none_some j (sym e))
 
-  start_same : (lasted : Bool) → started m.world A lasted ≡ started m.world A false
-  start_same lasted =
-      ap (λ (state : NodeState Entry). let w : World Entry = record m.world {
-        base = with_node m.world.base A (record state { up = true; known = m.world.base.duty.epoch });
-        failed_writes = put_failed_write m.world.failed_writes A None;
-      } in w) (picked m.world.failed_writes.a lasted (node_at m.world.base.nodes A) sure.a)
+  picked_duty : (o : Option Duty) (lasted : Bool) (base : Resolved Entry) → o ≡ None → with_failed_duty o lasted base ≡ with_failed_duty o false base
+  picked_duty None lasted base e = refl
+  picked_duty (Some duty) lasted base e = absurd (none_some duty (sym e))
 
-  -- the row of a start that leads to this world
-  abbrev starting : World Entry → Row told.Told (World Entry)
-  starting v =
+  none_failed : (n : NodeName) → failed_write_at m.world.failed_writes n ≡ None
+  none_failed A = sure.a
+  none_failed B = sure.b
+
+  start_same : (n : NodeName) (lasted : Bool) → started m.world n lasted ≡ started m.world n false
+  start_same n lasted =
+      ap (λ (state : NodeState Entry). let w : World Entry = record m.world {
+        base = with_node m.world.base n (record state { up = true; known = m.world.base.duty.epoch });
+        failed_writes = put_failed_write m.world.failed_writes n None;
+      } in w) (picked (failed_write_at m.world.failed_writes n) lasted (node_at m.world.base.nodes n) (none_failed n))
+
+  start_duty_same : (lasted : Bool) → register_started m.world lasted ≡ register_started m.world false
+  start_duty_same lasted =
+      ap (λ (base : Resolved Entry). let w : World Entry = record m.world { base = recovered base; register_up = true; failed_duty = None } in w) (picked_duty m.world.failed_duty lasted m.world.base sure.duty)
+
+  -- the rows of the starts that lead to this world
+
+  abbrev starting : NodeName → World Entry → Row told.Told (World Entry)
+  starting n v =
       let w = m.world in
-      unless (state_of m) (Test (refusals.duty_is_down w) ∷ Test (refusals.node_is_up w A) ∷ [])
-      (MayFail (disk_of A) w
-      (unless (state_of m) (Test (refusals.short w A (journal_at v A)) ∷ [])
-      (Success (told.Started A (length (journal_at v A)) w.base.duty.epoch) v)))
+      unless (state_of m) (Test (refusals.duty_is_down w) ∷ Test (refusals.node_is_up w n) ∷ [])
+      (MayFail (disk_of n) w
+      (unless (state_of m) (Test (refusals.short w n (journal_at v n)) ∷ [])
+      (Success (told.Started n (length (journal_at v n)) w.base.duty.epoch) v)))
+
+  abbrev starting_duty : World Entry → Row told.Told (World Entry)
+  starting_duty v = unless (state_of m) (refusals.start_duty_row m.world) (MayFail disk.Duty m.world (Success (told.Started_duty v.base.duty) v))
+
+  order_same : (lasted : Bool) (order : Order) → order_row m lasted order ≡ order_row m false order
+  order_same lasted (order.Start n) = ap (λ (v : World Entry). starting n v) (start_same n lasted)
+  order_same lasted order.StartDuty = ap (λ (v : World Entry). starting_duty v) (start_duty_same lasted)
+  order_same lasted order = refl
 
   command_same : (lasted : Bool) (command : Command) → command_row m lasted command ≡ command_row m false command
-  command_same lasted (commands.Ask position tn since) = refl
-  command_same lasted (commands.Report report) = refl
-  command_same lasted (commands.File content) = refl
-  command_same lasted (commands.Edit editor serial edit) = refl
-  command_same lasted commands.Next = refl
-  command_same lasted commands.Batch = refl
-  command_same lasted commands.Stop = refl
-  command_same lasted commands.Start = ap (λ (v : World Entry). event_row m (starting v)) (start_same lasted)
+  command_same lasted (commands.Ordered order) = ap (λ (row : Row told.Told (World Entry)). event_row m row) (order_same lasted order)
+  command_same lasted command = refl
 
   event_same : (lasted : Bool) (event : Event) → row_of lasted m event ≡ row_of false m event
   unfolding row_of
   event_same lasted (First command) = command_same lasted command
-  event_same lasted (Writes batch) = refl
-  event_same lasted (Books batch) = refl
+  event_same lasted event = refl
 
 -- a course, but for the counts
 record Still : Type 0 where
@@ -151,7 +219,7 @@ still c = record { machine = c.moment.machine; told = c.told; event = c.event }
 record Goes (before now : Counts) (s : Still) (event : Event) (t : Still) : Type 0 where
   reply : Reply
   gives : Gives before now (λ disk. Told (Failed disk)) s.machine (row_of false s.machine event) reply t.machine
-  told : t.told ≡ s.told ++ told_of event reply
+  told : t.told ≡ s.told ++ told_of event t.machine reply
   next : t.event ≡ then_comes event t.machine reply
 
 abbrev GoesBy : Counts → Counts → Still → Option Event → Still → Type 0
@@ -182,7 +250,7 @@ one_still before now other later s t u (Some event) calm_here calm_there goes go
     let row = row_of false s.machine event in
     let again = calm other later before now failure s.machine calm_there row going.reply u.machine going.gives in
     let one = one_reply before now failure s.machine calm_here row goes.reply going.reply t.machine u.machine goes.gives again in
-    let said : t.told ≡ u.told = goes.told ∙ ap (λ r. s.told ++ told_of event r) one.0 ∙ sym going.told in
+    let said : t.told ≡ u.told = goes.told ∙ ap (λ r. s.told ++ told_of event t.machine r) one.0 ∙ ap (λ x. s.told ++ told_of event x going.reply) one.1 ∙ sym going.told in
     let comes : t.event ≡ u.event = goes.next ∙ ap (λ r. then_comes event t.machine r) one.0 ∙ ap (λ x. then_comes event x going.reply) one.1 ∙ sym going.next in
     ap (λ (x : Machine). let y : Still = record { machine = x; told = t.told; event = t.event } in y) one.1
     ∙ ap (λ (x : List Reply). let y : Still = record { machine = u.machine; told = x; event = t.event } in y) said

@@ -1,4 +1,3 @@
-pub mod Commands
 pub mod Machine
 pub mod Replies
 pub mod ReplyText
@@ -6,10 +5,4 @@ pub mod CommandRows
 pub mod Courses
 pub mod Steps
 pub mod Switches
-pub mod FirstEpoch
 pub mod Laws
-pub mod MadeReply
-pub mod DeskSteps
-pub mod OpenedDesk
-pub mod CommandText
-pub mod LineReading

@@ -1,15 +1,15 @@
 -- The machine: the replicated world and the job. Its moment has besides how often each disk has failed.
 use Rattle.std.specs.Prelude.{ℕ, List, length, Option, Some, None}
+use Rattle.ali_base.specs.declared.duty.Duty.{Duty}
 use Rattle.ali_base.specs.declared.names.NodeName.{NodeName}
 use Rattle.batch_desk.specs.Jobs.{IsJob}
 use Rattle.batch_desk.specs.declared.job.Job.{Job}
 use Rattle.node_journal.specs.declared.frame.TheConstants.{LAST_EPOCH, MOST_FRAMES}
 use Rattle.office_entry.specs.declared.entry.Entry.{Entry}
 use Rattle.office_state.specs.OfficeState.{State, office_limits}
-use Rattle.pair_node.specs.LoneNode.{lone_world}
 use Rattle.pair_world.specs.Frames.{Frame, entries}
 use Rattle.pair_world.specs.Step.{Bounds}
-use Rattle.pair_world.specs.World.{World}
+use Rattle.pair_world.specs.World.{World, node_at, opened_from, other, without_doubt}
 use Rattle.world_rows.specs.Counts.{Counts}
 use Rattle.world_rows.specs.Histories.{state_of as state_in, IsLawful as IsLawfulWorld}
 
@@ -27,13 +27,20 @@ pub record Moment : Type 0 where
   pub machine : Machine
   pub counts : Counts
 
--- the machine at the start of a run, over the journal that the disk stands for
-abbrev pub first_machine : List (Frame Entry) → Machine
-first_machine frames = record { world = lone_world frames; job = None }
+-- the machine at the start of a run, over the duties and the two journals that the disks stand for
+abbrev pub first_machine : List Duty → List (Frame Entry) → List (Frame Entry) → Machine
+first_machine duties a b = record { world = without_doubt (opened_from duties a b); job = None }
 
--- the holder of the duty
+-- the holder of the duty, and the other node
 abbrev pub holder_of : Machine → NodeName
 holder_of m = m.world.base.duty.holder
+
+abbrev pub mirror_of : Machine → NodeName
+mirror_of m = other (holder_of m)
+
+-- the journal of a node
+abbrev pub journal_of : Machine → NodeName → List (Frame Entry)
+journal_of m n = (node_at m.world.base.nodes n).journal
 
 -- how many entries are booked, and the state after them
 abbrev pub count_of : Machine → ℕ

@@ -8,7 +8,7 @@ use Rattle.ali_base.specs.declared.names.DiskName.{DiskName}
 use Rattle.ali_base.specs.declared.names.DiskName.TheVariants as disk
 use Rattle.batch_desk.specs.JobReplies.{job_reply}
 use Rattle.batch_desk.specs.ReplyLines.{frame_line, refusal_line, read_line, done_line}
-use Rattle.command_machine.specs.Replies.{Reply, Told, Answer, Reported, Framing, Standing, No_job, Read, Complete, Finished}
+use Rattle.command_machine.specs.Replies.{Reply, Told, Answer, Reported, Framing, Standing, No_job, Read, Caught_up, Complete, Finished}
 use Rattle.pair_world.specs.Refusals as refusal
 use Rattle.text_line.specs.WordLines.{line_of}
 use Rattle.world_rows.specs.Told as told
@@ -104,6 +104,7 @@ reply_line (Framing fault) = frame_line fault
 reply_line (Standing fault) = refusal_line fault
 reply_line No_job = line_of (codes "NO" ∷ codes "JOB" ∷ [])
 reply_line (Read job) = read_line job
+reply_line (Caught_up len) = line_of (codes "CAUGHT" ∷ codes "UP" ∷ decimal len ∷ [])
 reply_line (Complete job) = done_line job
 reply_line (Finished s job) = []
 

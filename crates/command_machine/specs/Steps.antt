@@ -1,6 +1,6 @@
 -- The step of the machine: a command, its replies and the machine after it; and the replies to a list of commands.
 use Rattle.std.specs.Prelude.{ℕ, suc, zero, ◌≡◌, List, [], ◌∷◌, ◌++◌, Bool, Option, Some, None}
-use Rattle.command_machine.specs.Commands.{Command}
+use Rattle.office_commands.specs.Commands.{Command}
 use Rattle.command_machine.specs.Courses.{Event, First, row_of, then_comes, told_of}
 use Rattle.command_machine.specs.Machine.{Moment}
 use Rattle.command_machine.specs.Replies.{Reply, Told}
@@ -29,7 +29,7 @@ pub record GoesOn (c : Course) (event : Event) (d : Course) : Type 0 where
   pub gives : Gives c.moment.counts d.moment.counts (λ disk. Told (Failed disk)) c.moment.machine
       (row_of lasted c.moment.machine event) reply d.moment.machine
   pub counts : NeverFall c.moment.counts d.moment.counts
-  pub told : d.told ≡ c.told ++ told_of event reply
+  pub told : d.told ≡ c.told ++ told_of event d.moment.machine reply
   pub next : d.event ≡ then_comes event d.moment.machine reply
 
 abbrev pub Moves : Course → Option Event → Course → Type 0

@@ -18,3 +18,7 @@ pub record IsSound (s : DiskState) : Type 0 where
   pub counts_now : (t : ℕ) (image : List ℕ) → t ≤ s.moment → s.may_leave image → s.left_since t image
   pub only_now : (image : List ℕ) → s.left_since s.moment image → s.may_leave image
   pub as_read : (f : List ℕ) → s.content ≡ Some f → s.may_leave f
+
+-- disks of this kind tell their bytes, at any time
+abbrev pub AlwaysTell : {D : Type 0} → (D → DiskState) → Type 0
+AlwaysTell {D} state = (disk : D) → (image : List ℕ) × ((state disk).content ≡ Some image)

@@ -4,7 +4,7 @@ use Rattle.std.proofs.Math.Seq.{take-append_seam, drop-append_seam}
 use Rattle.std.proofs.lemmas.Bool.Decides.{nat_tests}
 use Rattle.std.proofs.lemmas.List.{take-append-drop, length-take-le}
 use Rattle.std.proofs.lemmas.Option.{cond_some, some_pair_parts}
-use Rattle.command_machine.specs.Commands.{Command, File}
+use Rattle.office_commands.specs.Commands.{Command, File}
 use Rattle.office_run.specs.ScriptGrammar.{LineEnds, BeginsLine}
 use Rattle.office_run.specs.ScriptReading.{content_at, ended}
 

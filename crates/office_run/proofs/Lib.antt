@@ -4,6 +4,7 @@ pub mod Completeness
 pub mod Ends
 pub mod FileTexts
 pub mod LineTexts
+pub mod OpenedJournals
 pub mod Scripts
 pub mod Serving
 pub mod Switched

@@ -1,23 +1,39 @@
 -- A script has one reading.
-use Rattle.std.proofs.Common.{◌≡◌, ℕ, List, [], ◌∷◌, ◌++◌, length, None, codes, arith, refl, ap, sym, ◌∙◌, subst}
+use Rattle.std.proofs.Common.{◌≡◌, ℕ, ◌<◌, List, [], ◌∷◌, ◌++◌, length, None, codes, arith, refl, ap, sym, ◌∙◌, subst}
 use Rattle.std.proofs.lemmas.Option.{some_pair_parts}
 use Rattle.office_run.specs.ScriptGrammar.{BeginsWith, Reads, IsScript, StopsAfter}
-use Rattle.command_machine.specs.CommandText.{ask_text, report_command_text, file_text, edit_text, stop_text, start_text}
-use Rattle.command_machine.specs.Commands.{Command, Ask, Report, File, Edit, Next, Batch, Stop, Start}
+use Rattle.office_commands.specs.CommandText.{ask_text, report_command_text, file_text, edit_text, write_text, order_text}
+use Rattle.office_commands.specs.Commands.{Command, Ask, Report, File, Edit, Write, Next, Batch, Catch_up, Ordered}
+use Rattle.office_commands.specs.declared.order.Order.{Order}
+use Rattle.office_commands.specs.declared.order.Order.TheVariants as order
 use Rattle.office_run.specs.ScriptReading.{command_at}
 use Rattle.office_run.proofs.CommandTexts.{command_at-begins}
 use Rattle.office_run.proofs.LineTexts.{line_size}
 
+-- an order has some text
+some_order : (o : Order) → 0 < length (order_text o)
+some_order order.Book = omega arith
+some_order (order.Ship node number) = omega arith
+some_order (order.Deliver message) = omega arith
+some_order (order.Take node) = omega arith
+some_order order.Alone = omega arith
+some_order order.Pair = omega arith
+some_order (order.Stop node) = omega arith
+some_order (order.Start node) = omega arith
+some_order order.StartDuty = omega arith
+some_order order.Status = omega arith
+
 -- nothing begins with a command where there is nothing
 no_command : (command : Command) (rest : List ℕ) → BeginsWith [] command rest → ⊥
-no_command (Ask position tn since) rest h = omega (arith, line_size [] (ask_text position tn since) rest h.spelled)
-no_command (Report report) rest h = omega (arith, line_size [] (report_command_text report) rest h.spelled)
+no_command (Ask node position tn since) rest h = omega (arith, line_size [] (ask_text node position tn since) rest h.spelled)
+no_command (Report node report) rest h = omega (arith, line_size [] (report_command_text node report) rest h.spelled)
 no_command (File content) rest h = omega (arith, line_size [] (file_text (length content)) h.spelled.0 h.spelled.1)
 no_command (Edit editor serial edit) rest h = omega (arith, line_size [] (edit_text editor serial h.spelled.0) rest h.spelled.2)
+no_command (Write node) rest h = omega (arith, line_size [] (write_text node) rest h.spelled)
 no_command Next rest h = omega (arith, line_size [] (codes "NEXT") rest h.spelled)
 no_command Batch rest h = omega (arith, line_size [] (codes "BATCH") rest h.spelled)
-no_command Stop rest h = omega (arith, line_size [] stop_text rest h.spelled)
-no_command Start rest h = omega (arith, line_size [] start_text rest h.spelled)
+no_command Catch_up rest h = omega (arith, line_size [] (codes "CATCHUP") rest h.spelled)
+no_command (Ordered order) rest h = omega (arith, some_order order, line_size [] (order_text order) rest h.spelled)
 
 -- two first commands are one, and so is what is left after them
 one_first : (bytes : List ℕ) (c d : Command) (x y : List ℕ) → BeginsWith bytes c x → BeginsWith bytes d y → (c ≡ d) × (x ≡ y)

@@ -1,37 +1,45 @@
 -- How a run ends: what was taken of the source and put into the sink, what was done, and what the disks then hold, by the status.
 use Rattle.std.specs.Prelude.{◌≡◌, ◌⊎◌, ℕ, ◌≤◌, List, length, Option, Some}
 use Rattle.std.specs.Io.KnownBytes.{Keeps}
-use Rattle.ali_base.specs.Faults.{Rose}
+use Rattle.ali_base.specs.declared.names.DiskName.{DiskName}
 use Rattle.ali_base.specs.declared.names.DiskName.TheVariants as disk
-use Rattle.ali_base.specs.declared.names.NodeName.TheVariants.{A}
-use Rattle.command_machine.specs.Commands.{Command}
+use Rattle.ali_base.specs.declared.names.NodeName.TheVariants.{A, B}
+use Rattle.office_commands.specs.Commands.{Command}
 use Rattle.command_machine.specs.Machine.{Moment}
+use Rattle.ali_base.specs.declared.duty.Duty.{Duty}
 use Rattle.crash_disk.specs.CrashOutcomes.{Stays}
-use Rattle.crash_disk.specs.DiskState.{DiskState}
-use Rattle.node_journal.specs.JournalImage.{StandsForSome, IsForeign, IsDamaged}
-use Rattle.node_journal.specs.declared.frame.TheConstants.{MOST_FRAMES}
-use Rattle.office_run.specs.Disks.{Disks, IsHonest, IsFirst, IsLast}
+use Rattle.crash_disk.specs.DiskState.{DiskState, AlwaysTell}
+use Rattle.duty_register.specs.DutiesRead.{EndsWith}
+use Rattle.duty_register.specs.DutyImage as duties
+use Rattle.node_journal.specs.declared.frame.TheConstants.{LAST_EPOCH, MOST_FRAMES}
+use Rattle.node_journal.specs.JournalImage.{StandsFor}
+use Rattle.office_entry.specs.declared.entry.Entry.{Entry}
+use Rattle.office_run.specs.Disks.{Disks, disk_in, IsHonest, IsFirst, IsLast}
 use Rattle.office_run.specs.Replied.{RepliedToAll, StoppedAt, RepliedInPart, RepliedToSome}
 use Rattle.office_run.specs.ScriptGrammar.{IsScript}
 use Rattle.office_run.specs.ScriptInput.{TookAll, TookPart, TookSome, TookTooMany}
 use Rattle.office_run.specs.declared.input.TheConstants.{SCRIPT_LIMIT}
 use Rattle.office_run.specs.declared.status.Status.{Status}
-use Rattle.office_run.specs.declared.status.Status.TheVariants.{Done, Usage, SourceFault, SinkFault, Script, TooLong, OpenFault, Foreign, Damaged, NotEmpty, NoMemory}
+use Rattle.office_run.specs.declared.status.Status.TheVariants.{Done, Usage, SourceFault, SinkFault, Script, TooLong, OpenFault, Foreign, Damaged, NotEmpty, Short, NoMemory}
+use Rattle.pair_core.specs.Pair.{OpenCause, OpenedBefore, length_at_opening}
+use Rattle.pair_core.specs.declared.faults.OpenEnd.{OpenEnd}
+use Rattle.pair_core.specs.declared.faults.OpenEnd.TheVariants as ends
+use Rattle.pair_world.specs.Frames.{Frame}
 
--- No command was begun: over an honest disk, the machine is at its first moment.
+-- No command was begun: over honest disks, the machine is at its first moment.
 abbrev pub IsIdle : Disks → Disks → Type 0
 IsIdle before now = IsHonest before → (first : Moment) × IsFirst before first × IsLast now first
 
 -- memory ran out before the disks were open: whatever a crash may leave it could leave before; or while the source was read, and nothing was put; or in a command, and those before it have their replies
 abbrev pub RanOut : Disks → Disks → (left left' old new : Option (List ℕ)) → Type 0
 RanOut before now left left' old new =
-    (Stays before.a now.a × Keeps left left' × Keeps old new)
+    (((d : DiskName) → Stays (disk_in before d) (disk_in now d)) × Keeps left left' × Keeps old new)
     ⊎ ((IsIdle before now × TookSome left left' × Keeps old new)
     ⊎ ((script : List ℕ) × TookAll left left' script × RepliedToSome before now script old new))
 
--- what is not opened: no byte of the disk is changed, and nothing is taken or put
+-- what is not opened: no byte of the disks is changed, and nothing is taken or put
 pub record IsUnopened (before now : Disks) (left left' old new : Option (List ℕ)) : Type 0 where
-  pub stays : Stays before.a now.a
+  pub stays : (d : DiskName) → Stays (disk_in before d) (disk_in now d)
   pub source : Keeps left left'
   pub sink : Keeps old new
 
@@ -46,25 +54,34 @@ Exit before now left left' old new TooLong = TookTooMany left left' × Keeps old
 Exit before now left left' old new (OpenFault d) = IsUnopened before now left left' old new
 Exit before now left left' old new (Foreign d) = IsUnopened before now left left' old new
 Exit before now left left' old new (Damaged d frame) = IsUnopened before now left left' old new
+Exit before now left left' old new (Short node have floor) = IsUnopened before now left left' old new
 Exit before now left left' old new (NotEmpty d) = ⊥
 Exit before now left left' old new Usage = ⊥
 
--- where disk a tells its bytes, they stand for a journal
-abbrev pub IsRead : DiskState → Type 0
-IsRead a = (image : List ℕ) → a.content ≡ Some image → StandsForSome A MOST_FRAMES image
+-- The disks show this end of an opening, and those that are opened before it were opened.
+abbrev pub OpenedTo : {D : Type 0} → (D → DiskState) → (old new : DiskName → D) → OpenEnd → Type 0
+OpenedTo state old new end = OpenCause state old new MOST_FRAMES LAST_EPOCH end × OpenedBefore state old MOST_FRAMES LAST_EPOCH end
 
--- Why each status comes, by the disk: a fault only where its count rose; what its bytes show, where it tells them; and each other status only where they are a journal's.
-abbrev pub DiskCause : DiskState → DiskState → Status → Type 0
-DiskCause old new (OpenFault disk.A) = Rose old.faults new.faults
-DiskCause old new (Foreign disk.A) = (image : List ℕ) → old.content ≡ Some image → IsForeign A image
-DiskCause old new (Damaged disk.A k) = (image : List ℕ) → old.content ≡ Some image → IsDamaged A MOST_FRAMES k image
-DiskCause old new (OpenFault d) = ⊥
-DiskCause old new (Foreign d) = ⊥
-DiskCause old new (Damaged d k) = ⊥
-DiskCause old new (NotEmpty d) = ⊥
-DiskCause old new Usage = ⊥
-DiskCause old new NoMemory = Unit {0}
-DiskCause old new status = IsRead old
+-- Where the disks tell their bytes, they stand for two journals and for duties, within the limits; each journal is as long as the last duty asks.
+abbrev pub AreOpened : {D : Type 0} → (D → DiskState) → (DiskName → D) → Type 0
+AreOpened state old =
+    (image_a image_b image_duty : List ℕ)
+    → (state (old disk.A)).content ≡ Some image_a → (state (old disk.B)).content ≡ Some image_b → (state (old disk.Duty)).content ≡ Some image_duty
+    → (a : List (Frame Entry)) × (b : List (Frame Entry)) × (list : List Duty) × (duty : Duty)
+    × StandsFor A a image_a × StandsFor B b image_b × duties.StandsFor list image_duty × EndsWith list duty
+    × (length a ≤ MOST_FRAMES) × (length b ≤ MOST_FRAMES) × (duty.epoch ≤ LAST_EPOCH)
+    × (AlwaysTell state → (length_at_opening duty A ≤ length a) × (length_at_opening duty B ≤ length b))
+
+-- Why each status of a run comes, by the disks: a fault only where its count rose; what its bytes show, where it tells them; and each other status only where those before it were opened. The register is opened first, then node a, then node b.
+abbrev pub DiskCause : {D : Type 0} → (D → DiskState) → (old new : DiskName → D) → Status → Type 0
+DiskCause state old new (OpenFault d) = OpenedTo state old new (ends.OpenFault d)
+DiskCause state old new (Foreign d) = OpenedTo state old new (ends.Foreign d)
+DiskCause state old new (Damaged d k) = OpenedTo state old new (ends.Damaged d k)
+DiskCause state old new (Short node have floor) = OpenedTo state old new (ends.Short node have floor)
+DiskCause state old new (NotEmpty d) = ⊥
+DiskCause state old new Usage = ⊥
+DiskCause state old new NoMemory = Unit {0}
+DiskCause state old new status = AreOpened state old
 
 -- each command has its reply, or memory ran out
 abbrev pub IsDoneOrNoMemory : Status → Type 0
@@ -72,11 +89,11 @@ IsDoneOrNoMemory Done = Unit {0}
 IsDoneOrNoMemory NoMemory = Unit {0}
 IsDoneOrNoMemory status = ⊥
 
--- over an honest disk, a script of the grammar within the limit is done where nothing fails
-abbrev pub Completes : Option (List ℕ) → Disks → (source_failed sink_failed disk_failed : Type 0) → Status → Type 0
-Completes left disks source_failed sink_failed disk_failed status =
+-- over honest disks, a script of the grammar within the limit is done where nothing fails
+abbrev pub Completes : Option (List ℕ) → Disks → (source_failed sink_failed no_disk_failed : Type 0) → Status → Type 0
+Completes left disks source_failed sink_failed no_disk_failed status =
     (script : List ℕ) (commands : List Command) → left ≡ Some script → IsScript script commands → length script ≤ SCRIPT_LIMIT
-    → IsHonest disks → ¬ source_failed → ¬ sink_failed → ¬ disk_failed → IsDoneOrNoMemory status
+    → IsHonest disks → ¬ source_failed → ¬ sink_failed → no_disk_failed → IsDoneOrNoMemory status
 
 -- the number that a program ends with
 abbrev pub status_number : Status → ℕ
@@ -90,4 +107,5 @@ status_number (OpenFault d) = 7
 status_number (Foreign d) = 8
 status_number (Damaged d frame) = 8
 status_number (NotEmpty d) = 8
+status_number (Short node have floor) = 10
 status_number NoMemory = 9

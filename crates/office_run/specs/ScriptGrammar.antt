@@ -1,8 +1,8 @@
 -- The grammar of scripts: a list of commands, each by its text.
 use Rattle.std.specs.Prelude.{◌≡◌, ◌≢◌, ◌⊎◌, ℕ, List, [], ◌∷◌, ◌++◌, length, codes}
 use Rattle.office_entry.specs.EditText.{IsEditText}
-use Rattle.command_machine.specs.Commands.{Command, Ask, Report, File, Edit, Next, Batch, Stop, Start, IsCommand}
-use Rattle.command_machine.specs.CommandText.{ask_text, report_command_text, file_text, edit_text, stop_text, start_text}
+use Rattle.office_commands.specs.Commands.{Command, Ask, Report, File, Edit, Write, Next, Batch, Catch_up, Ordered, IsCommand}
+use Rattle.office_commands.specs.CommandText.{ask_text, report_command_text, file_text, edit_text, write_text, order_text}
 
 -- the bytes are the end of a line, which may be missing at the end of the bytes; rest is what is left
 abbrev pub LineEnds : List ℕ → List ℕ → Type 0
@@ -14,14 +14,15 @@ BeginsLine bytes text rest = (tail : List ℕ) × (bytes ≡ text ++ tail) × Li
 
 -- the bytes begin with the text of a command: one line, which for a file has its length and is followed by its bytes and the end of a line
 abbrev pub Spelled : List ℕ → Command → List ℕ → Type 0
-Spelled bytes (Ask position tn since) rest = BeginsLine bytes (ask_text position tn since) rest
-Spelled bytes (Report report) rest = BeginsLine bytes (report_command_text report) rest
+Spelled bytes (Ask node position tn since) rest = BeginsLine bytes (ask_text node position tn since) rest
+Spelled bytes (Report node report) rest = BeginsLine bytes (report_command_text node report) rest
 Spelled bytes (File content) rest = (left : List ℕ) × BeginsLine bytes (file_text (length content)) left × BeginsLine left content rest
 Spelled bytes (Edit editor serial edit) rest = (text : List ℕ) × IsEditText text edit × BeginsLine bytes (edit_text editor serial text) rest
+Spelled bytes (Write node) rest = BeginsLine bytes (write_text node) rest
 Spelled bytes Next rest = BeginsLine bytes (codes "NEXT") rest
 Spelled bytes Batch rest = BeginsLine bytes (codes "BATCH") rest
-Spelled bytes Stop rest = BeginsLine bytes stop_text rest
-Spelled bytes Start rest = BeginsLine bytes start_text rest
+Spelled bytes Catch_up rest = BeginsLine bytes (codes "CATCHUP") rest
+Spelled bytes (Ordered order) rest = BeginsLine bytes (order_text order) rest
 
 -- the bytes begin with a command; rest is what is left
 pub record BeginsWith (bytes : List ℕ) (command : Command) (rest : List ℕ) : Type 0 where

@@ -2,10 +2,10 @@
 use Rattle.std.specs.Prelude.{ℕ, ◌==◌, nat_lt, List, [], ◌∷◌, length, take, drop, Option, Some, None, unwrap_or, if◌then◌else◌}
 use Rattle.ali_base.specs.Steps.{◌>>=◌, when}
 use Rattle.text_line.specs.WordReading.{split_once}
-use Rattle.command_machine.specs.Commands.{Command, Ask, Report, File, Edit, Next, Batch, Stop, Start}
-use Rattle.command_machine.specs.LineReading.{line_of}
-use Rattle.command_machine.specs.declared.command_line.CommandLine.{CommandLine}
-use Rattle.command_machine.specs.declared.command_line.CommandLine.TheVariants as line
+use Rattle.office_commands.specs.Commands.{Command, Ask, Report, File, Edit, Write, Next, Batch, Catch_up, Ordered}
+use Rattle.office_commands.specs.LineReading.{line_of}
+use Rattle.office_commands.specs.declared.command_line.CommandLine.{CommandLine}
+use Rattle.office_commands.specs.declared.command_line.CommandLine.TheVariants as line
 
 -- the first line, and what is left after its end; without an end all is the line
 unfoldable pub line_at : List ℕ → List ℕ × List ℕ
@@ -22,14 +22,15 @@ content_at len bytes = if nat_lt (length bytes) len then None else ended (take l
 
 -- the command of a first line, and what is left after it
 abbrev pub command_of_line : List ℕ → CommandLine → Option (Command × List ℕ)
-command_of_line rest (line.Ask ask) = Some (Ask ask.position ask.tn ask.since, rest)
-command_of_line rest (line.Report report) = Some (Report report, rest)
+command_of_line rest (line.Ask ask) = Some (Ask ask.node ask.position ask.tn ask.since, rest)
+command_of_line rest (line.Report node report) = Some (Report node report, rest)
 command_of_line rest (line.File len) = content_at len rest
 command_of_line rest (line.Edit editor serial edit) = Some (Edit editor serial edit, rest)
+command_of_line rest (line.Write node) = Some (Write node, rest)
 command_of_line rest line.Next = Some (Next, rest)
 command_of_line rest line.Batch = Some (Batch, rest)
-command_of_line rest line.Stop = Some (Stop, rest)
-command_of_line rest line.Start = Some (Start, rest)
+command_of_line rest line.CatchUp = Some (Catch_up, rest)
+command_of_line rest (line.Order order) = Some (Ordered order, rest)
 
 -- the first command, and what is left after it
 unfoldable pub command_at : List ℕ → Option (Command × List ℕ)

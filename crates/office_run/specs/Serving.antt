@@ -1,24 +1,29 @@
 -- A desk of a run: its disks, what it shows once it is open, and how the run of a script at it ends.
-use Rattle.std.specs.Prelude.{◌≡◌, ℕ, List, true, Option}
+use Rattle.std.specs.Prelude.{◌≡◌, ℕ, List, [], true, Option}
+use Rattle.ali_base.specs.declared.names.DiskName.TheVariants as disk
+use Rattle.ali_base.specs.declared.names.NodeName.TheVariants.{A, B}
+use Rattle.command_desk.specs.MadeReply.{ShowsMachine}
+use Rattle.command_desk.specs.declared.desk.Desk.{Desk}
 use Rattle.command_machine.specs.Machine.{Moment, IsLawful}
-use Rattle.command_machine.specs.MadeReply.{ShowsMachine, is_up}
-use Rattle.command_machine.specs.declared.desk.Desk.{Desk}
 use Rattle.crash_disk.specs.DiskState.{DiskState}
 use Rattle.office_run.specs.Disks.{Disks, disks_of, IsHonest, IsFirst}
 use Rattle.office_run.specs.Replied.{RepliedToAll, StoppedAt, RepliedInPart, RepliedToSome}
 use Rattle.office_run.specs.declared.status.Status.{Status}
-use Rattle.office_run.specs.declared.status.Status.TheVariants.{Done, SourceFault, SinkFault, Script, TooLong, OpenFault, Foreign, Damaged, NoMemory}
-use Rattle.pair_node.specs.LoneNode.{disk_of}
-use Rattle.pair_node.specs.declared.faults.LoneEnd.{LoneEnd}
-use Rattle.pair_node.specs.declared.faults.LoneEnd.TheVariants as ends
+use Rattle.office_run.specs.declared.status.Status.TheVariants.{Done, SourceFault, SinkFault, Script, TooLong, OpenFault, Foreign, Damaged, Short, NoMemory}
+use Rattle.pair_core.specs.Pair.{disk_at, is_node_up, is_up, sent_of}
+use Rattle.pair_core.specs.declared.faults.OpenEnd.{OpenEnd}
+use Rattle.pair_core.specs.declared.faults.OpenEnd.TheVariants as ends
 
 -- the disks of a desk
 abbrev pub disks_at : {D : Type 0} → (D → DiskState) → Desk D → Disks
-disks_at state desk = disks_of state (disk_of desk.office) desk.office.b desk.office.duty
+disks_at state desk = disks_of state (disk_at desk.pair disk.A) (disk_at desk.pair disk.B) (disk_at desk.pair disk.Duty)
 
--- A desk before its first command: the node is up, and over an honest disk the desk shows the first machine, which is lawful.
+-- A desk before its first command: the register and the nodes are up and no message is sent, and over honest disks the desk shows the first machine, which is lawful.
 pub record IsOpenDesk {D : Type 0} (state : D → DiskState) (desk : Desk D) : Type 0 where
-  pub up : is_up desk ≡ true
+  pub register : is_up desk.pair ≡ true
+  pub a : is_node_up desk.pair A ≡ true
+  pub b : is_node_up desk.pair B ≡ true
+  pub sent : sent_of desk.pair ≡ []
   pub first : IsHonest (disks_at state desk)
       → (first : Moment) × IsFirst (disks_at state desk) first × ShowsMachine state desk first × IsLawful first.machine
 
@@ -41,8 +46,9 @@ IsServed NoMemory = Unit {0}
 IsServed status = ⊥
 
 -- the status of a run whose disks are not opened
-abbrev pub end_status : LoneEnd → Status
+abbrev pub end_status : OpenEnd → Status
 end_status (ends.OpenFault disk) = OpenFault disk
 end_status (ends.Foreign disk) = Foreign disk
 end_status (ends.Damaged disk frame) = Damaged disk frame
+end_status (ends.Short node have floor) = Short node have floor
 end_status ends.NoMemory = NoMemory

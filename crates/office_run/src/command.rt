@@ -1,10 +1,10 @@
 //! Reading commands from the front of a script.
 ghost use Rattle.std.specs.Prelude.{◌≡◌, ◌<◌, ◌≤◌, length, option_map, IfSome};
-ghost use Rattle.command_machine.specs.Commands.{File};
-ghost use Rattle.command_machine.specs.MadeReply.{command_of};
+ghost use Rattle.office_commands.specs.Commands.{File, IsCommand};
+ghost use Rattle.command_desk.specs.MadeReply.{command_of};
 ghost use Rattle.office_run.specs.ScriptReading.{content_at, command_of_line, command_at, line_at};
 
-use command_machine::{Command, CommandLine};
+use office_commands::{Command, CommandLine};
 use text_line::split_once;
 
 /// The first command of a script, and what is left after it. None where the bytes do not begin
@@ -12,6 +12,7 @@ use text_line::split_once;
 #[tactic(auto, unfolding(crate::specs::ScriptReading::command_at))]
 pub(crate) fn first_command(bytes: &[u8]) -> Option<(Command<'_>, &[u8])>
     ensures command { option_map (λ x. (command_of x.0, x.1.now)) result ≡ command_at bytes.now }
+    ensures lawful { IfSome result (λ x. IsCommand (command_of x.0)) }
     ensures shorter { IfSome result (λ x. length x.1.now < length bytes.now) }
 {
     let (line, rest) = line_at(bytes);
@@ -27,7 +28,13 @@ fn command_of_line<'a>(rest: &'a [u8], line: &CommandLine) -> Option<(Command<'a
 {
     match line {
         CommandLine::Ask(ask) => Some((Command::Ask(*ask), rest)),
-        CommandLine::Report(report) => Some((Command::Report(*report), rest)),
+        CommandLine::Report { node, report } => {
+            let command = Command::Report {
+                node: *node,
+                report: *report,
+            };
+            Some((command, rest))
+        }
         CommandLine::File(len) => {
             let (content, rest) = content_at(*len as usize, rest)?;
             Some((Command::File(content), rest))
@@ -44,10 +51,11 @@ fn command_of_line<'a>(rest: &'a [u8], line: &CommandLine) -> Option<(Command<'a
             };
             Some((command, rest))
         }
+        CommandLine::Write(node) => Some((Command::Write(*node), rest)),
         CommandLine::Next => Some((Command::Next, rest)),
         CommandLine::Batch => Some((Command::Batch, rest)),
-        CommandLine::Stop => Some((Command::Stop, rest)),
-        CommandLine::Start => Some((Command::Start, rest)),
+        CommandLine::CatchUp => Some((Command::CatchUp, rest)),
+        CommandLine::Order(order) => Some((Command::Order(*order), rest)),
     }
 }
 

@@ -1,12 +1,11 @@
 //! Laws of the definitions, for whoever reads them.
-ghost use Rattle.std.specs.Prelude.{◌≡◌, ℕ, ◌↔◌, List, [], Some};
-ghost use Rattle.ali_base.specs.declared.names.NodeName.TheVariants.{A};
-ghost use Rattle.command_machine.specs.Commands.{Command};
+ghost use Rattle.std.specs.Prelude.{◌≡◌, ℕ, ◌↔◌, List, Some, All};
+ghost use Rattle.office_commands.specs.Commands.{Command};
 ghost use Rattle.office_run.specs.ScriptGrammar.{BeginsWith, IsScript, StopsAfter};
 ghost use Rattle.office_run.specs.ScriptReading.{command_at};
-ghost use Rattle.node_journal.specs.JournalState.{KeepsFrames};
-ghost use Rattle.office_run.specs.Disks.{IsHonest, disks_of};
-ghost use Rattle.pair_node.specs.LoneNode.{AlwaysTell};
+ghost use Rattle.crash_disk.specs.DiskState.{AlwaysTell};
+ghost use Rattle.office_run.specs.Disks.{IsHonest, disk_in, disks_of};
+ghost use Rattle.office_run.specs.Formatted.{IsNew, all_disks};
 
 use crate::input::SCRIPT_LIMIT;
 use crash_disk::Disk;
@@ -28,9 +27,10 @@ pub fn scripts_have_one_reading()
         → IsScript bytes commands → StopsAfter bytes others → ⊥ }
 {}
 
-/// A formatted disk of a kind that tells its bytes is honest.
+/// Formatted disks of a kind that tells its bytes are honest.
 pub fn formatted_disks_are_honest<D: Disk>()
-    ensures { (a b duty : D) → AlwaysTell D.state → KeepsFrames A [] (D.state a)
+    ensures { (a b duty : D) → AlwaysTell D.state
+        → All (λ d. IsNew d (disk_in (disks_of D.state a b duty) d)) all_disks
         → IsHonest (disks_of D.state a b duty) }
 {}
 

@@ -1,13 +1,15 @@
 //! The call that does all that the program does.
-ghost use Rattle.std.specs.Prelude.{◌≡◌, ◌↔◌, ◌≤◌, ◌≢◌, true, false, length};
+ghost use Rattle.std.specs.Prelude.{◌≡◌, ◌↔◌, ◌≤◌, true, false, length};
 ghost use Rattle.ali_base.specs.Faults.{Rose};
-ghost use Rattle.command_machine.specs.OpenedDesk.{Keeps as KeepsDesk};
-ghost use Rattle.office_run.specs.Disks.{disks_of};
+ghost use Rattle.command_desk.specs.OpenedDesk.{Keeps as KeepsDesk};
+ghost use Rattle.office_run.specs.Disks.{disks_of, counts_of};
 ghost use Rattle.office_run.specs.Exit.{Exit, DiskCause, Completes};
 ghost use Rattle.office_run.specs.Formatted.{Formats};
 ghost use Rattle.office_run.specs.Serving.{IsOpenDesk, IsServed, Serves, disks_at, end_status};
 ghost use Rattle.office_run.specs.Words.{is_run, is_format, texts};
 ghost use Rattle.office_run.specs.declared.input.TheConstants.{SCRIPT_LIMIT};
+ghost use Rattle.pair_core.specs.Pair.{handed};
+ghost use Rattle.world_rows.specs.Counts.{NoneRose};
 
 use crate::command::first_command;
 use crate::formatting::format;
@@ -15,17 +17,18 @@ use crate::input::{InputFault, read_all};
 use crate::status::Status;
 use crate::words::{is_format, is_run};
 use ali_base::{NoMemory, Sink, Source};
-use command_machine::Desk;
+use command_desk::Desk;
 use crash_disk::Disk;
-use node_journal::{an_image_is_read_one_way, frames_are_known_from_the_image};
-use pair_node::LoneEnd;
+use duty_register::{duties_are_counted, duties_are_known_from_the_image};
+use node_journal::frames_are_known_from_the_image;
+use pair_core::OpenEnd;
 use std::alloc::Global;
 
 /// Does what the words say, and hands the disks a, b and duty back with the status.
 ///
-/// `run DIR` opens disk a, reads the source to its end, and then answers the commands of the script
-/// one after the other, each reply put whole before the next command. `format DIR` formats disk a.
-/// The two other disks are not touched. DIR is where `main` finds the disks.
+/// `run DIR` opens the register, then node a, then node b, reads the source to its end, and then answers
+/// the commands of the script one after the other, each reply put whole before the next command.
+/// `format DIR` formats the three disks, in the same order. DIR is where `main` finds the disks.
 pub fn office<S: Source, K: Sink, D: Disk + Drop>(
     alloc: Global,
     words: &[&str],
@@ -39,10 +42,10 @@ pub fn office<S: Source, K: Sink, D: Disk + Drop>(
     ensures usage { (result.0 ≡ Status.Usage)
         ↔ ((is_run (texts words.now) ≡ false) × (is_format (texts words.now) ≡ false)) }
     ensures untouched { result.0 ≡ Status.Usage
-        → (source.new ≡ source.old) × (sink.new ≡ sink.old) × (result.1 ≡ a) }
-    ensures others { (result.2 ≡ b) × (result.3 ≡ duty) }
+        → (source.new ≡ source.old) × (sink.new ≡ sink.old)
+        × (result.1 ≡ a) × (result.2 ≡ b) × (result.3 ≡ duty) }
 
-    // Of a run, what was taken, put and done is what the status says: over an honest disk the replies
+    // Of a run, what was taken, put and done is what the status says: over honest disks the replies
     // are those of one machine over one booked history, and whatever a crash may leave keeps it.
     ensures exit { is_run (texts words.now) ≡ true
         → Exit (disks_of D.state a b duty) (disks_of D.state result.1 result.2 result.3)
@@ -53,28 +56,36 @@ pub fn office<S: Source, K: Sink, D: Disk + Drop>(
     ensures source_fault { result.0 ≡ Status.SourceFault
         → Rose (S.faults source.old) (S.faults source.new) }
     ensures sink_fault { result.0 ≡ Status.SinkFault → Rose (K.faults sink.old) (K.faults sink.new) }
-    ensures disk_cause { is_run (texts words.now) ≡ true → DiskCause (D.state a) (D.state result.1) result.0 }
+    ensures disk_cause { is_run (texts words.now) ≡ true
+        → DiskCause D.state (handed a b duty) (handed result.1 result.2 result.3) result.0 }
 
     // Where nothing fails, all of a script is done.
     ensures complete { is_run (texts words.now) ≡ true
         → Completes (S.left source.old) (disks_of D.state a b duty)
         (Rose (S.faults source.old) (S.faults source.new))
         (Rose (K.faults sink.old) (K.faults sink.new))
-        (Rose (D.state a).faults (D.state result.1).faults) result.0 }
+        (NoneRose (counts_of (disks_of D.state a b duty))
+        (counts_of (disks_of D.state result.1 result.2 result.3)))
+        result.0 }
 
-    // Formatting takes an empty disk, and leaves the source untouched.
+    // Formatting takes empty disks, and leaves the source untouched.
     ensures formats { is_format (texts words.now) ≡ true
-        → (source.new ≡ source.old) × Formats (D.state a) (D.state result.1)
+        → (source.new ≡ source.old)
+        × Formats (disks_of D.state a b duty) (disks_of D.state result.1 result.2 result.3)
         (K.contents sink.old) (K.contents sink.new) result.0 }
 {
     if is_run(words) {
-        // An image that stands for a journal is neither foreign nor damaged.
-        an_image_is_read_one_way();
+        // Each image stands for one list, or shows why it stands for none.
+        frames_are_known_from_the_image();
+        duties_are_known_from_the_image();
+        duties_are_counted();
+        node_journal::an_image_is_read_one_way();
+        duty_register::an_image_is_read_one_way();
         return run(alloc, source, sink, a, b, duty);
     }
     if is_format(words) {
-        let mut a = a;
-        let status = format(sink, &mut a);
+        let (mut a, mut b, mut duty) = (a, b, duty);
+        let status = format(sink, &mut a, &mut b, &mut duty);
         return (status, a, b, duty);
     }
     (Status::Usage, a, b, duty)
@@ -91,14 +102,14 @@ fn run<S: Source, K: Sink, D: Disk + Drop>(
 ) -> (Status, D, D, D)
     ensures exit { Exit (disks_of D.state a b duty) (disks_of D.state result.1 result.2 result.3)
         (S.left source.old) (S.left source.new) (K.contents sink.old) (K.contents sink.new) result.0 }
-    ensures others { (result.2 ≡ b) × (result.3 ≡ duty) }
     ensures source_fault { result.0 ≡ Status.SourceFault
         → Rose (S.faults source.old) (S.faults source.new) }
     ensures sink_fault { result.0 ≡ Status.SinkFault → Rose (K.faults sink.old) (K.faults sink.new) }
-    ensures disk_cause { DiskCause (D.state a) (D.state result.1) result.0 }
+    ensures disk_cause { DiskCause D.state (handed a b duty) (handed result.1 result.2 result.3) result.0 }
 {
-    // An image stands for one journal alone.
+    // An image stands for one list alone.
     frames_are_known_from_the_image();
+    duties_are_known_from_the_image();
     let mut desk = match Desk::open(alloc, a, b, duty) {
         Ok(desk) => desk,
         Err((a, b, duty, end)) => return (not_opened(end), a, b, duty),
@@ -109,14 +120,15 @@ fn run<S: Source, K: Sink, D: Disk + Drop>(
 }
 
 // The status where the disks are not opened.
-fn not_opened(end: LoneEnd) -> Status
+fn not_opened(end: OpenEnd) -> Status
     ensures { result ≡ end_status end }
 {
     match end {
-        LoneEnd::OpenFault(disk) => Status::OpenFault(disk),
-        LoneEnd::Foreign(disk) => Status::Foreign(disk),
-        LoneEnd::Damaged(disk, frame) => Status::Damaged(disk, frame),
-        LoneEnd::NoMemory => Status::NoMemory,
+        OpenEnd::OpenFault(disk) => Status::OpenFault(disk),
+        OpenEnd::Foreign(disk) => Status::Foreign(disk),
+        OpenEnd::Damaged(disk, frame) => Status::Damaged(disk, frame),
+        OpenEnd::Short { node, have, floor } => Status::Short { node, have, floor },
+        OpenEnd::NoMemory => Status::NoMemory,
     }
 }
 
@@ -165,11 +177,11 @@ fn answer_all<K: Sink, D: Disk + Drop>(
             Some(found) => found,
             None => return Status::Script(count + 1),
         };
-        let reply = match desk.carry_out(alloc, &command) {
-            Ok(reply) => reply,
+        let told = match desk.carry_out(alloc, &command) {
+            Ok(told) => told,
             Err(NoMemory) => return Status::NoMemory,
         };
-        if desk.put(&reply, sink).is_err() {
+        if desk.put(&told, sink).is_err() {
             return Status::SinkFault;
         }
         rest = after;

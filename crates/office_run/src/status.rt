@@ -1,7 +1,7 @@
 //! How a run ends.
 ghost use Rattle.std.specs.Prelude.{◌≡◌};
 
-use ali_base::DiskName;
+use ali_base::{DiskName, NodeName};
 
 /// How a run ended.
 #[derive(Clone, Copy, Debug, PartialEq, Eq)]
@@ -28,6 +28,12 @@ pub enum Status {
     NotEmpty(DiskName),
     /// Memory ran out.
     NoMemory,
+    /// The node's journal has fewer frames than were booked when the present duty began.
+    Short {
+        node: NodeName,
+        have: u32,
+        floor: u32,
+    },
 }
 
 impl Status {
@@ -47,6 +53,7 @@ impl Status {
             Status::OpenFault(_) => 7,
             Status::Foreign(_) | Status::Damaged(..) | Status::NotEmpty(_) => 8,
             Status::NoMemory => 9,
+            Status::Short { .. } => 10,
         }
     }
 }

@@ -4,6 +4,7 @@ ghost use Rattle.std.specs.Prelude.{◌+◌, ◌≤◌, length};
 use crate::{Status, office};
 use ali_base::{MemSink, MemSource, NoMemory, NodeName};
 use crash_disk::MemDisk;
+use duty_register::format_duty;
 use node_journal::format;
 use office_fixtures::{SentRecord, put};
 use std::alloc::Global;
@@ -68,11 +69,15 @@ pub(crate) fn empty(alloc: Global) -> Result<MemDisk, NoMemory> {
     MemDisk::new(alloc, 64_000, 262_144, Vec::new(alloc))
 }
 
-// Disk a, which is formatted, and two that are not touched.
+// Formatted disks: of the nodes, and of the register.
 pub(crate) fn disks(alloc: Global) -> Result<(MemDisk, MemDisk, MemDisk), NoMemory> {
     let mut a = empty(alloc)?;
+    let mut b = empty(alloc)?;
+    let mut duty = empty(alloc)?;
     let _ = format(&mut a, NodeName::A);
-    Ok((a, empty(alloc)?, empty(alloc)?))
+    let _ = format(&mut b, NodeName::B);
+    let _ = format_duty(&mut duty);
+    Ok((a, b, duty))
 }
 
 // Runs a script, of which a take gives 300 bytes at most, with calls that fail.
@@ -655,10 +660,10 @@ TN 3035550100 NO RECORD FOUND
 // A line outside the grammar is the first of its kind, and the replies before it stand.
 #[test]
 fn lines_outside_the_grammar(rt: HostRuntime) -> Result<(), Fail> {
-    let cases: [&[u8]; 19] = [
+    let cases: [&[u8]; 25] = [
         b"HELLO\n",
         b"\n",
-        b"ASK b 1 3035550100 0\n",
+        b"ASK c 1 3035550100 0\n",
         b"ASK a 0 3035550100 0\n",
         b"ASK a 65 3035550100 0\n",
         b"ASK a 01 3035550100 0\n",
@@ -667,6 +672,12 @@ fn lines_outside_the_grammar(rt: HostRuntime) -> Result<(), Fail> {
         b"ASK a 1 3035550100 0 \n",
         b"LINE\n",
         b"NEXT \n",
+        b"WRITE\n",
+        b"SHIP a 0\n",
+        b"DELIVER 0\n",
+        b"TAKE c\n",
+        b"STOP duty\n",
+        b"START\n",
         b"EDIT 0 1 RETIRE 1\n",
         b"EDIT 65 1 RETIRE 1\n",
         b"EDIT 1 1000000000 RETIRE 1\n",

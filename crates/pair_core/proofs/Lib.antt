@@ -1,4 +1,5 @@
 mod PairShown
+mod PairBeside
 pub mod PairRows
 mod PairDuty
 pub mod PairReport

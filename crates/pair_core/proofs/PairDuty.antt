@@ -31,8 +31,7 @@ use Rattle.world_rows.specs.Histories.{due_after}
 use Rattle.world_rows.specs.Rows.{Row, Gives}
 use Rattle.world_rows.specs.Told.{Told, Failed, On_duty}
 use Rattle.world_rows.specs.WorldRows.{duty_row}
-use Rattle.world_rows.specs.WorldSteps.{OfficeEvent}
-use Rattle.pair_node.specs.LoneNode.{Comes}
+use Rattle.world_rows.specs.WorldSteps.{OfficeEvent, Comes}
 use Rattle.pair_node.specs.NodeState as node
 use Rattle.pair_core.specs.Pair.{Shows, ShowsNode, AreMoments, LeavesDuties, node_of, disk_at, bounds_of, duty_of, is_up, counts_of}
 use Rattle.pair_core.specs.PairAnswers.{told, ChangeRest}

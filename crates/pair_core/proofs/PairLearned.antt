@@ -30,16 +30,15 @@ use Rattle.world_rows.specs.Counts.{NeverFall, RoseAt}
 use Rattle.world_rows.specs.Histories.{IsLawful, due_after, state_of}
 use Rattle.world_rows.specs.Rows.{Row, Gives}
 use Rattle.world_rows.specs.Told.{Told, Failed}
-use Rattle.pair_node.specs.LearnedEntries.{Learns, Fails, IsGone, IsNotDueAt}
-use Rattle.pair_node.specs.LoneAnswers.{IsBadFrame}
-use Rattle.pair_node.specs.LoneNode.{Comes}
+use Rattle.pair_node.specs.LearnedEntries.{Learns, Fails, IsGone, IsNotDueAt, IsBadFrame}
+use Rattle.world_rows.specs.WorldSteps.{Comes}
 use Rattle.pair_node.specs.NodeState as node
 use Rattle.pair_node.specs.StartedNode.{IsStopped}
 use Rattle.pair_node.specs.declared.faults.LearnFault.{LearnFault}
 use Rattle.pair_node.specs.declared.faults.LearnFault.TheVariants as learning
 use Rattle.pair_node.specs.declared.node.Node.{Node}
 use Rattle.pair_node.proofs.Quiet.{long_as}
-use Rattle.pair_node.proofs.LoneWorlds.{journal_legal}
+use Rattle.pair_node.proofs.LegalJournals.{journal_legal}
 use Rattle.pair_core.specs.Pair.{Shows, ShowsNode, IsCall, node_of, is_node_up, len_of, count_of, table_of, disk_at, bounds_of, counts_of}
 use Rattle.pair_core.specs.PairAnswers.{IsBad, LearningCauses, KeepsCourse, fault_told}
 use Rattle.pair_core.specs.PairChanges.{IsBesideNode, IsLearned, NotLearnedAt}

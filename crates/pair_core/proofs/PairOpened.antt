@@ -10,7 +10,7 @@ use Rattle.ali_base.specs.declared.names.DiskName.TheVariants as disks
 use Rattle.ali_base.specs.declared.names.NodeName.{NodeName}
 use Rattle.ali_base.specs.declared.names.NodeName.TheVariants.{A, B}
 use Rattle.crash_disk.specs.CrashOutcomes.{Stays}
-use Rattle.crash_disk.specs.DiskState.{DiskState}
+use Rattle.crash_disk.specs.DiskState.{DiskState, AlwaysTell}
 use Rattle.crash_disk.proofs.Runs.{stays_here}
 use Rattle.duty_register.specs.DutiesRead as read
 use Rattle.duty_register.specs.DutyImage as duties
@@ -27,7 +27,6 @@ use Rattle.pair_world.specs.Frames.{Frame}
 use Rattle.pair_world.specs.Refusals.{disk_of}
 use Rattle.pair_world.specs.World.{Resolved, node_at, other, duty_list, opened, opened_from, without_doubt, booked_at_start, failed_write_at, MayList}
 use Rattle.pair_world.proofs.DutyLists.{list_opened}
-use Rattle.pair_node.specs.LoneNode.{AlwaysTell}
 use Rattle.pair_node.specs.NodeState as node
 use Rattle.pair_node.specs.StartedNode as starts
 use Rattle.pair_node.specs.StartedNode.{IsStarted, HasFrames}
@@ -173,6 +172,7 @@ module _ {D : Type 0} (state : D → DiskState) (disk_a disk_b disk_d : D) (limi
             bounds = λ i. record { frames = frames_is i; last_epoch = last_is i };
             up = ap (λ (f : Option Duty). is_none f) joined.failed;
             nodes_up = in_pair (λ x. (n : NodeName) → node.is_usable (node_in x n) ≡ true) up_of;
+            sent = joined.messages;
             enough = subst (λ (d : Duty). (n : NodeName) → length_at_opening d n ≤ len_of pair n) (sym joined.duty) (in_pair (λ x. (n : NodeName) → length_at_opening present n ≤ node.count_of (node_in x n)) enough_of);
             count = subst (λ (d : Duty). pair.count ≡ booked_in pair.nodes d) (sym joined.duty) joined.count;
             shown = shown;

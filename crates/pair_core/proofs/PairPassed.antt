@@ -35,8 +35,7 @@ use Rattle.world_rows.specs.Histories.{due_after, state_of}
 use Rattle.world_rows.specs.Rows.{Row, Gives, MayFail, Unless as RowUnless}
 use Rattle.world_rows.specs.Told.{Told, Refused, Failed}
 use Rattle.world_rows.specs.WorldRows.{unless, journal_at}
-use Rattle.world_rows.specs.WorldSteps.{OfficeEvent}
-use Rattle.pair_node.specs.LoneNode.{Comes}
+use Rattle.world_rows.specs.WorldSteps.{OfficeEvent, Comes}
 use Rattle.pair_node.specs.Messages.{as_told, as_delivered, as_ack, ack_made}
 use Rattle.pair_node.specs.NodeState as node
 use Rattle.pair_node.specs.StoredMessage.{is_change}

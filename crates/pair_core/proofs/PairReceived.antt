@@ -30,8 +30,7 @@ use Rattle.world_rows.specs.Histories.{due_after, state_of}
 use Rattle.world_rows.specs.Rows.{Row, Gives, Unless as RowUnless, Success}
 use Rattle.world_rows.specs.Told.{Told, Refused, Failed, Acked, Acked_end}
 use Rattle.world_rows.specs.WorldRows.{answer_row, message_row, deliver_row, journal_at, acked_told}
-use Rattle.world_rows.specs.WorldSteps.{OfficeEvent}
-use Rattle.pair_node.specs.LoneNode.{Comes}
+use Rattle.world_rows.specs.WorldSteps.{OfficeEvent, Comes}
 use Rattle.pair_node.specs.Messages.{as_told, as_delivered, ack_made}
 use Rattle.pair_node.specs.NodeState as node
 use Rattle.pair_node.specs.StoredMessage.{is_change}

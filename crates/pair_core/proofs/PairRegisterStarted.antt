@@ -24,7 +24,7 @@ use Rattle.pair_world.specs.Refusals as refusals
 use Rattle.pair_world.specs.SoundWorld.{AreCounted}
 use Rattle.pair_world.specs.Step.{Start_duty}
 use Rattle.pair_world.specs.World.{World, Resolved, duty_list, recovered}
-use Rattle.pair_node.specs.LoneNode.{Comes}
+use Rattle.world_rows.specs.WorldSteps.{Comes}
 use Rattle.pair_node.specs.NodeState as node
 use Rattle.world_rows.specs.Histories.{IsLawful, state_of}
 use Rattle.world_rows.specs.Rows.{MayFail, Success}

@@ -19,7 +19,7 @@ use Rattle.world_rows.specs.Counts.{Counts}
 use Rattle.world_rows.specs.Rows.{Row, Gives}
 use Rattle.world_rows.specs.Told.{Told, Refused, Failed}
 use Rattle.world_rows.specs.WorldRows.{unless}
-use Rattle.pair_node.specs.LoneNode.{Comes}
+use Rattle.world_rows.specs.WorldSteps.{Comes}
 use Rattle.pair_core.specs.Pair.{Shows, duty_of, is_up, is_node_up, bounds_of, counts_of}
 use Rattle.pair_core.specs.PairAnswers.{fault_told}
 use Rattle.pair_core.specs.PairChanges.{MayChange}

@@ -24,7 +24,7 @@ use Rattle.world_rows.specs.Rows.{Row, MayFail, Success, Gives}
 use Rattle.world_rows.specs.Told.{Told, Refused, Sent, Failed}
 use Rattle.world_rows.specs.WorldRows.{ship_row}
 use Rattle.pair_node.specs.LearnedEntries.{IsGone}
-use Rattle.pair_node.specs.LoneNode.{Comes}
+use Rattle.world_rows.specs.WorldSteps.{Comes}
 use Rattle.pair_node.specs.Messages.{IsMessage, as_told}
 use Rattle.pair_node.specs.NodeState as node
 use Rattle.pair_node.specs.declared.message.Message.{Message as OwnMessage}

@@ -29,12 +29,12 @@ use Rattle.world_rows.specs.Rows.{Row, Gives, MayFail, Success}
 use Rattle.world_rows.specs.Told.{Told, Refused, Failed, Started}
 use Rattle.world_rows.specs.WorldRows as world
 use Rattle.world_rows.specs.WorldRows.{start_row, journal_at}
-use Rattle.pair_node.specs.LoneNode.{Comes}
+use Rattle.world_rows.specs.WorldSteps.{Comes}
 use Rattle.pair_node.specs.NodeState as node
 use Rattle.pair_node.specs.StartedNode.{HasForgotten, HasFrames, IsRefused, IsStarted, RestartAnswers, Asked, asked_again}
 use Rattle.pair_node.specs.declared.faults.StartFault.{StartFault}
 use Rattle.pair_node.specs.declared.faults.StartFault.TheVariants as starting
-use Rattle.pair_node.specs.declared.lone_node.Started.{Started as StartedNode}
+use Rattle.pair_core.specs.declared.starting.Started.{Started as StartedNode}
 use Rattle.pair_node.proofs.Quiet.{long_as}
 use Rattle.pair_core.specs.Pair.{Shows, IsCall, node_of, is_node_up, len_of, duty_of, disk_at, bounds_of, counts_of}
 use Rattle.pair_core.specs.PairAnswers.{StartCauses, StartRest, StartFailure, KeepsCourse, Unless, pair_fault, fault_told}

@@ -9,7 +9,7 @@ use Rattle.ali_base.specs.declared.names.DiskName.TheVariants as disks
 use Rattle.ali_base.specs.declared.names.NodeName.{NodeName}
 use Rattle.ali_base.specs.declared.names.NodeName.TheVariants.{A, B}
 use Rattle.crash_disk.specs.CrashOutcomes.{Stays}
-use Rattle.crash_disk.specs.DiskState.{DiskState}
+use Rattle.crash_disk.specs.DiskState.{DiskState, AlwaysTell}
 use Rattle.crash_disk.specs.Moments.{EachMoment}
 use Rattle.duty_register.specs.DutiesRead as read
 use Rattle.duty_register.specs.DutyImage as duties
@@ -31,8 +31,7 @@ use Rattle.world_rows.specs.Counts.{Counts, NeverFall}
 use Rattle.world_rows.specs.Histories.{due_after, IsLawful}
 use Rattle.world_rows.specs.Rows.{Row}
 use Rattle.world_rows.specs.Told.{Told}
-use Rattle.world_rows.specs.WorldSteps.{OfficeEvent}
-use Rattle.pair_node.specs.LoneNode.{AlwaysTell, Comes}
+use Rattle.world_rows.specs.WorldSteps.{OfficeEvent, Comes}
 use Rattle.pair_node.specs.NodeState as node
 use Rattle.pair_core.specs.PairNodes.{node_in, sent_told}
 use Rattle.pair_node.specs.StartedNode.{HasFrames}
@@ -182,12 +181,13 @@ abbrev pub booked_at_opening : Mode → (holder other : ℕ) → ℕ
 booked_at_opening Alone holder other = holder
 booked_at_opening Both holder other = min holder other
 
--- Opened: no byte is changed, and both nodes are up. Each journal is as long as the duty asks, and the booked history is known from the two. Where the disks tell their bytes, they stand for two journals and for duties; and where disks always do, the pair shows the world that is opened over them.
+-- Opened: no byte is changed, both nodes are up, and no message is sent. Each journal is as long as the duty asks, and the booked history is known from the two. Where the disks tell their bytes, they stand for two journals and for duties; and where disks always do, the pair shows the world that is opened over them.
 pub record IsOpened {D : Type 0} (state : D → DiskState) (a b duty : D) (limits : Limits) (frames last_epoch : ℕ) (pair : Pair D) : Type 0 where
   pub kept : AreKept state (handed a b duty) (disk_at pair)
   pub bounds : bounds_of pair ≡ record { frames = frames; last_epoch = last_epoch }
   pub up : is_up pair ≡ true
   pub nodes_up : (n : NodeName) → is_node_up pair n ≡ true
+  pub sent : sent_of pair ≡ []
   pub enough : (n : NodeName) → length_at_opening (duty_of pair) n ≤ len_of pair n
   pub count :
       count_of pair

@@ -1,5 +1,5 @@
--- What each call of the pair tells, and why each answer comes, over any disk.
-use Rattle.std.specs.Prelude.{◌≡◌, ◌⊎◌, ℕ, ◌+◌, ◌-◌, ◌<◌, ◌≤◌, nat_lt, max, not, if◌then◌else◌, Bool, true, false, List, [], ◌∷◌, ◌++◌, length, Option, Some, None, Result, Ok, Err}
+-- What each call of the pair tells, why each answer comes, and what stays beside it, over any disk.
+use Rattle.std.specs.Prelude.{◌≡◌, ◌⊎◌, ℕ, ◌+◌, ◌-◌, ◌<◌, ◌≤◌, nat_lt, max, not, if◌then◌else◌, Bool, true, false, List, [], ◌∷◌, ◌++◌, length, Option, Some, None, Result, Ok, Err, OnErr, IfErr}
 use Rattle.ali_base.specs.Steps.{when}
 use Rattle.ali_base.specs.declared.duty.Duty.{Duty}
 use Rattle.ali_base.specs.declared.names.DiskName.{DiskName}
@@ -20,8 +20,7 @@ use Rattle.pair_world.specs.World.{other}
 use Rattle.world_rows.specs.Counts.{RoseAt}
 use Rattle.world_rows.specs.Told as tells
 use Rattle.world_rows.specs.Told.{Told, Refused, Not_due, Foreign, Damaged, Ready, Written, Booked, Stopped, Started, Behind, Cut, Stored, Have, Have_end, Acked, Acked_end, Told_status}
-use Rattle.pair_node.specs.LearnedEntries.{IsGone, IsVerdictAt, Learns}
-use Rattle.pair_node.specs.LoneAnswers.{IsBadFrame}
+use Rattle.pair_node.specs.LearnedEntries.{IsGone, IsVerdictAt, Learns, IsBadFrame}
 use Rattle.pair_node.specs.NodeState.{journal_of, learned_of}
 use Rattle.pair_core.specs.Pair.{node_of, is_node_up, is_up, len_of, count_of, table_of, duty_of, bounds_of, counts_of, disk_at, sent_of, acked_of, ended_of}
 use Rattle.pair_core.specs.PairRefusals as rows
@@ -36,8 +35,8 @@ use Rattle.pair_core.specs.declared.faults.PairFault.{PairFault}
 use Rattle.pair_core.specs.declared.faults.PairFault.TheVariants as fault
 use Rattle.pair_node.specs.declared.faults.StartFault.{StartFault}
 use Rattle.pair_node.specs.declared.faults.StartFault.TheVariants as starting
-use Rattle.pair_node.specs.declared.lone_node.Booked.{Booked as BookedEntry}
-use Rattle.pair_node.specs.declared.lone_node.Started.{Started as StartedNode}
+use Rattle.pair_core.specs.declared.pair_writes.Booked.{Booked as BookedEntry}
+use Rattle.pair_core.specs.declared.starting.Started.{Started as StartedNode}
 use Rattle.pair_node.specs.declared.message.Ack.{Ack}
 use Rattle.pair_node.specs.declared.message.Delivered.{Delivered}
 use Rattle.pair_node.specs.declared.message.Delivered.TheVariants as delivered
@@ -166,6 +165,53 @@ abbrev pub Unless : {P T : Type 0} → Option PairFault → P → P → Result T
 Unless (Some refusal) old new result Rest = (result ≡ Err refusal) × (new ≡ old)
 Unless None old new result Rest = Rest
 
+-- What a call keeps beside what it is about.
+module _ {D : Type 0} (old new : Pair D) where
+  -- the node is up or down as it was
+  abbrev pub SameNode : NodeName → Type 0
+  SameNode n = is_node_up new n ≡ is_node_up old n
+
+  -- the messages on their way are those from before
+  abbrev pub SameSent : Type 0
+  SameSent = sent_of new ≡ sent_of old
+
+  -- a call of this node keeps the other one and the messages
+  abbrev pub KeepsOther : NodeName → Type 0
+  KeepsOther n = SameNode (other n) × SameSent
+
+  -- a call of the register keeps both nodes and the messages
+  abbrev pub KeepsNodes : Type 0
+  KeepsNodes = ((n : NodeName) → SameNode n) × SameSent
+
+  -- a takeover keeps its node too, but where the answer is that its disk is damaged
+  abbrev pub KeepsTaker : NodeName → Result Duty PairFault → Type 0
+  KeepsTaker n (Err (fault.Damaged disk frame)) = Unit {0}
+  KeepsTaker n result = SameNode n
+
+  -- a shipment of this node keeps the other one, and the messages where it is refused or fails
+  abbrev pub ShipKeeps : NodeName → Result ℕ PairFault → Type 0
+  ShipKeeps n result = SameNode (other n) × OnErr result SameSent
+
+  -- the delivery of a shipment keeps its sender, that of an acknowledgement both nodes
+  abbrev pub DeliverKeeps : Option Sent → Type 0
+  DeliverKeeps None = Unit {0}
+  DeliverKeeps (Some (sent.Shipment sender message)) = SameNode sender
+  DeliverKeeps (Some (sent.Acknowledgement to ack)) = (n : NodeName) → SameNode n
+
+  -- each node whose disk is not this one is up or down as it was
+  abbrev pub KeepsApart : DiskName → Type 0
+  KeepsApart disk = (n : NodeName) → (disk_of n ≡ disk → ⊥) → SameNode n
+
+  -- where a disk failed in the call, or is damaged, each node whose disk that is not
+  abbrev pub KeepsSound : PairFault → Type 0
+  KeepsSound (fault.Fault disk) = KeepsApart disk
+  KeepsSound (fault.Damaged disk frame) = KeepsApart disk
+  KeepsSound refusal = Unit {0}
+
+  -- passing frames on keeps the messages, and each node whose disk neither failed nor is damaged
+  abbrev pub PassKeeps : {T : Type 0} → Result T PairFault → Type 0
+  PassKeeps result = SameSent × IfErr result KeepsSound
+
 module _ {D : Type 0} (state : D → DiskState) (old new : Pair D) where
   -- the disk failed in the call
   abbrev pub Failed : DiskName → Type 0
@@ -278,6 +324,7 @@ module _ {D : Type 0} (state : D → DiskState) (old new : Pair D) where
   abbrev pub StartDutyRest : Result Duty PairFault → Type 0
   StartDutyRest (Ok duty) =
       ((duty ≡ duty_of old) ⊎ (old.failed ≡ Some duty)) × (duty_of new ≡ duty) × (is_up new ≡ true) × (count_of new ≡ max (count_of old) duty.floor)
+      × (is_up old ≡ false)
   StartDutyRest (Err (fault.Up disk)) = (disk ≡ disks.Duty) × (is_up old ≡ true) × (new ≡ old)
   StartDutyRest (Err (fault.Fault disk)) = (disk ≡ disks.Duty) × Failed disks.Duty × (is_up old ≡ false) × KeepsCourse
   StartDutyRest (Err (fault.Foreign disk)) =

@@ -107,6 +107,10 @@ module _ {D : Type 0} (p : Pair D) where
   abbrev pub ack_refusal : NodeName → Option PairFault
   ack_refusal to = first_of (duty_is_down ∷ node_is_down to ∷ [])
 
+  -- of what the holder alone does
+  abbrev pub held_refusal : Option PairFault
+  held_refusal = first_of (duty_is_down ∷ node_is_down holder ∷ [])
+
   -- of passing frame k on, before it is made
   abbrev pub shipping_refusal : ℕ → Option PairFault
   shipping_refusal k = first_of (duty_is_down ∷ node_is_down holder ∷ no_entry k ∷ [])

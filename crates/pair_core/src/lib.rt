@@ -21,5 +21,7 @@ pub use faults::{OpenEnd, PairFault};
 pub use laws::{crashes_are_halts, formatted_worlds_are_lawful, ready_tables_have_the_history};
 pub use nodes::other;
 pub use pair::{Pair, PairStatus};
-pub use pair_node::{Ack, Booked, Delivered, Message, Node, Started, What};
+pub use pair_node::{Ack, Delivered, Message, Node, What};
 pub use pair_refusals::MOST_MESSAGES;
+pub use pair_writes::Booked;
+pub use starting::Started;

@@ -3,7 +3,7 @@ ghost use Rattle.std.specs.Prelude.{◌≡◌, ◌⊎◌, true, false};
 ghost use Rattle.ali_base.specs.Duties.{next_duty};
 ghost use Rattle.ali_base.specs.declared.duty.Mode.TheVariants as modes;
 ghost use Rattle.pair_core.specs.Pair.{Does, Moments, IsCall, duty_of, count_of, len_of, bounds_of};
-ghost use Rattle.pair_core.specs.PairAnswers.{told, Unless, ChangeRest, TakeRest, StartDutyRest, register_fault};
+ghost use Rattle.pair_core.specs.PairAnswers.{told, Unless, ChangeRest, TakeRest, StartDutyRest, KeepsOther, KeepsTaker, KeepsNodes, register_fault};
 ghost use Rattle.pair_core.specs.PairRefusals as rows;
 ghost use Rattle.pair_world.specs.Step as events;
 ghost use Rattle.world_rows.specs.Told.{On_duty, Started_duty};
@@ -28,6 +28,7 @@ impl<D: Disk + Drop> Pair<D> {
         ensures causes { Unless (rows.take_refusal self.old n) self.old self.new result
             (TakeRest D.state self.old self.new n
             (next_duty (duty_of self.old) n modes.Alone (len_of self.old n)) result) }
+        ensures beside { KeepsOther self.old self.new n × KeepsTaker self.old self.new n result }
         ensures call { IsCall D.state self.old self.new }
     {
         if let Some(refusal) = self.take_refusal(n) {
@@ -52,6 +53,7 @@ impl<D: Disk + Drop> Pair<D> {
         ensures causes { Unless (rows.take_refusal self.old (rows.holder self.old)) self.old self.new result
             (ChangeRest D.state self.old self.new
             (next_duty (duty_of self.old) (rows.holder self.old) modes.Alone (count_of self.old)) result) }
+        ensures beside { KeepsNodes self.old self.new }
         ensures call { IsCall D.state self.old self.new }
     {
         let holder = self.duty.holder;
@@ -71,6 +73,7 @@ impl<D: Disk + Drop> Pair<D> {
         ensures causes { Unless (rows.pair_refusal self.old) self.old self.new result
             (ChangeRest D.state self.old self.new
             (next_duty (duty_of self.old) (rows.holder self.old) modes.Both (count_of self.old)) result) }
+        ensures beside { KeepsNodes self.old self.new }
         ensures call { IsCall D.state self.old self.new }
     {
         if let Some(refusal) = self.pair_refusal() {
@@ -87,6 +90,7 @@ impl<D: Disk + Drop> Pair<D> {
         ensures does { Does D.state self.old self.new (λ limits lasted w. start_duty_row limits w lasted) (told Started_duty result) }
         ensures moments { Moments D.state self.old self.new events.Start_duty }
         ensures causes { StartDutyRest D.state self.old self.new result }
+        ensures beside { KeepsNodes self.old self.new }
         ensures call { IsCall D.state self.old self.new }
     {
         let failed = match self.failed {

@@ -4,7 +4,7 @@ ghost use Rattle.pair_node.specs.Messages.{ack_made};
 ghost use Rattle.pair_node.specs.declared.message.Ack.{Ack as AnyAck};
 ghost use Rattle.pair_node.specs.declared.message.Message.{Message as AnyMessage};
 ghost use Rattle.pair_core.specs.Pair.{Does, Moments, PassMoments, IsCall, sent_of, duty_of, is_node_up, len_of, bounds_of};
-ghost use Rattle.pair_core.specs.PairAnswers.{told, delivered_told, passed_told, ShipCauses, DeliverCauses, PassCauses, IsAnswered};
+ghost use Rattle.pair_core.specs.PairAnswers.{told, delivered_told, passed_told, ShipCauses, DeliverCauses, PassCauses, ShipKeeps, DeliverKeeps, PassKeeps, IsAnswered};
 ghost use Rattle.pair_core.specs.PairMessages.{IsBesideMessages, IsHeard, NotReadAt, IsMade, hearing};
 ghost use Rattle.pair_core.specs.PairNodes.{IsSent};
 ghost use Rattle.pair_core.specs.PairPassing.{pass_row};
@@ -31,6 +31,7 @@ impl<D: Disk + Drop> Pair<D> {
         ensures does { Does D.state self.old self.new (λ limits lasted w. ship_row limits w n k) (told tells.Sent result) }
         ensures moments { Moments D.state self.old self.new (events.Ship k) }
         ensures causes { ShipCauses D.state self.old self.new n k result }
+        ensures beside { ShipKeeps self.old self.new n result }
         ensures call { IsCall D.state self.old self.new }
     {
         if let Some(refusal) = self.ship_refusal(n, k) {
@@ -52,6 +53,7 @@ impl<D: Disk + Drop> Pair<D> {
         ensures does { Does D.state self.old self.new (λ limits lasted w. deliver_row limits w i) (told delivered_told result) }
         ensures moments { Moments D.state self.old self.new (events.Deliver i) }
         ensures causes { DeliverCauses D.state self.old self.new i (slice_get (sent_of self.old) (i - 1)) result }
+        ensures beside { DeliverKeeps self.old self.new (slice_get (sent_of self.old) (i - 1)) }
         ensures call { IsCall D.state self.old self.new }
     {
         match self.messages.get((i - 1) as usize) {
@@ -77,6 +79,7 @@ impl<D: Disk + Drop> Pair<D> {
         ensures does { Does D.state self.old self.new (λ limits lasted w. deliver_row limits w i) (told delivered_told result) }
         ensures moments { Moments D.state self.old self.new (events.Deliver i) }
         ensures causes { DeliverCauses D.state self.old self.new i (slice_get (sent_of self.old) (i - 1)) result }
+        ensures beside { DeliverKeeps self.old self.new (slice_get (sent_of self.old) (i - 1)) }
         ensures call { IsCall D.state self.old self.new }
     {
         if let Some(refusal) = self.shipment_refusal(sender) {
@@ -118,6 +121,7 @@ impl<D: Disk + Drop> Pair<D> {
         ensures does { Does D.state self.old self.new (λ limits lasted w. pass_row limits w k) (told passed_told result) }
         ensures moments { PassMoments D.state self.old self.new k }
         ensures causes { PassCauses D.state self.old self.new k result }
+        ensures beside { PassKeeps self.old self.new result }
         ensures call { IsCall D.state self.old self.new }
     {
         if let Some(refusal) = self.shipping_refusal(k) {

@@ -196,7 +196,9 @@ impl<D: Disk + Drop> Pair<D> {
         }
     }
 
-    pub(crate) fn ready_refusal(&self, n: NodeName) -> Option<PairFault>
+    /// Why the table of a node may not be made ready; none where it may. In mode Alone only the holder
+    /// answers.
+    pub fn ready_refusal(&self, n: NodeName) -> Option<PairFault>
         ensures { result ≡ rows.ready_refusal self.now n }
     {
         self.duty_is_down()
@@ -204,13 +206,22 @@ impl<D: Disk + Drop> Pair<D> {
             .or(self.not_in_duty(n))
     }
 
-    pub(crate) fn write_refusal(&self, n: NodeName) -> Option<PairFault>
+    /// Why the node may not write an entry, whichever it is; none where it may. Only the holder writes,
+    /// and only where no entry is pending.
+    pub fn write_refusal(&self, n: NodeName) -> Option<PairFault>
         ensures { result ≡ rows.write_refusal self.now n }
     {
         self.duty_is_down()
             .or(self.node_is_down(n))
             .or(self.not_holder(n))
             .or(self.in_flight())
+    }
+
+    /// Why the holder may do nothing; none where it and the register are up.
+    pub fn held_refusal(&self) -> Option<PairFault>
+        ensures { result ≡ rows.held_refusal self.now }
+    {
+        self.duty_is_down().or(self.node_is_down(self.duty.holder))
     }
 
     pub(crate) fn book_refusal(&self) -> Option<PairFault>

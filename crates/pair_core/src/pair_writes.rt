@@ -3,7 +3,8 @@ ghost use Rattle.std.specs.Prelude.{◌≡◌, ◌<◌, true};
 ghost use Rattle.pair_node.specs.LearnedEntries.{Learns, NextAnswers};
 ghost use Rattle.pair_node.specs.NodeState.{learned_of};
 ghost use Rattle.pair_core.specs.Pair.{Does, Moments, IsCall, node_of, is_node_up, len_of, count_of, bounds_of, duty_of};
-ghost use Rattle.pair_core.specs.PairAnswers.{told, written_told, booked_told, WriteCauses, BookCauses};
+ghost use Rattle.pair_core.specs.PairAnswers.{told, written_told, booked_told, WriteCauses, BookCauses, KeepsOther};
+ghost use Rattle.pair_core.specs.PairRefusals as rows;
 ghost use Rattle.pair_core.specs.PairWrites.{AppendAnswers, CountsNext};
 ghost use Rattle.pair_world.specs.Step as events;
 ghost use Rattle.world_rows.specs.WorldRows.{write_row, book_row};
@@ -16,7 +17,15 @@ use crash_disk::Disk;
 use node_journal::AppendFault;
 use office_entry::Entry;
 use office_state::Verdict;
-use pair_node::{Booked, LearnFault};
+use pair_node::LearnFault;
+
+/// An entry that was booked: its number in the booked history, and its verdict.
+#[derive(Clone, Copy, Debug, PartialEq, Eq)]
+pub struct Booked {
+    pub number: u32,
+    pub code: u16,
+    pub detail: u64,
+}
 
 impl<D: Disk + Drop> Pair<D> {
     /// The holder writes an entry that may be booked next behind the booked ones, and answers its number.
@@ -26,6 +35,7 @@ impl<D: Disk + Drop> Pair<D> {
             (told (written_told (duty_of self.old).epoch) result) }
         ensures moments { Moments D.state self.old self.new (events.Write e.now) }
         ensures causes { WriteCauses D.state self.old self.new n e.now result }
+        ensures beside { KeepsOther self.old self.new n }
         ensures call { IsCall D.state self.old self.new }
     {
         if let Some(refusal) = self.write_refusal(n) {
@@ -57,6 +67,7 @@ impl<D: Disk + Drop> Pair<D> {
         ensures does { Does D.state self.old self.new (λ limits lasted w. book_row limits w) (told booked_told result) }
         ensures moments { Moments D.state self.old self.new events.Book }
         ensures causes { BookCauses D.state self.old self.new result }
+        ensures beside { KeepsOther self.old self.new (rows.holder self.old) }
         ensures call { IsCall D.state self.old self.new }
     {
         if let Some(refusal) = self.book_refusal() {

@@ -1,7 +1,7 @@
 //! The table of a node of a pair learns what is booked.
 ghost use Rattle.std.specs.Prelude.{◌≡◌, true};
 ghost use Rattle.pair_core.specs.Pair.{Does, Moments, IsCall, is_node_up};
-ghost use Rattle.pair_core.specs.PairAnswers.{told, ready_told, ReadyCauses, ReadyRest};
+ghost use Rattle.pair_core.specs.PairAnswers.{told, ready_told, ReadyCauses, ReadyRest, KeepsOther};
 ghost use Rattle.pair_core.specs.PairChanges.{NotLearnedAt, IsLearned};
 ghost use Rattle.world_rows.specs.WorldRows.{ready_row};
 ghost use Rattle.world_rows.specs.WorldSteps.{OfficeEvent};
@@ -20,6 +20,7 @@ impl<D: Disk + Drop> Pair<D> {
         // No byte is changed: a crash leaves what it might have left before, in whatever event this is a part of.
         ensures moments { (event : OfficeEvent) → Moments D.state self.old self.new event }
         ensures causes { ReadyCauses D.state self.old self.new n result }
+        ensures beside { KeepsOther self.old self.new n }
         ensures call { IsCall D.state self.old self.new }
     {
         if let Some(refusal) = self.ready_refusal(n) {

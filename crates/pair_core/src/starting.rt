@@ -1,7 +1,7 @@
 //! The nodes of a pair are stopped and started.
 ghost use Rattle.std.specs.Prelude.{◌≡◌};
 ghost use Rattle.pair_core.specs.Pair.{Does, Moments, IsCall};
-ghost use Rattle.pair_core.specs.PairAnswers.{told, stopped_told, started_told, StopCauses, StartCauses, pair_fault};
+ghost use Rattle.pair_core.specs.PairAnswers.{told, stopped_told, started_told, StopCauses, StartCauses, KeepsOther, pair_fault};
 ghost use Rattle.pair_world.specs.Step as events;
 ghost use Rattle.world_rows.specs.WorldRows.{stop_row, start_row};
 
@@ -11,7 +11,14 @@ use crate::pair::Pair;
 use ali_base::NodeName;
 use crash_disk::Disk;
 use node_journal::{an_image_is_read_one_way, frames_are_known_from_the_image};
-use pair_node::{StartFault, Started};
+use pair_node::StartFault;
+
+/// A node that was started: how many frames its journal has, and the latest epoch that it knows.
+#[derive(Clone, Copy, Debug, PartialEq, Eq)]
+pub struct Started {
+    pub len: u32,
+    pub known: u32,
+}
 
 impl<D: Disk + Drop> Pair<D> {
     /// Stops the node. What was acknowledged is the holder's, and goes with it.
@@ -19,6 +26,7 @@ impl<D: Disk + Drop> Pair<D> {
         ensures does { Does D.state self.old self.new (λ limits lasted w. stop_row limits w n) (told (stopped_told n) result) }
         ensures moments { Moments D.state self.old self.new (events.Stop n) }
         ensures causes { StopCauses D.state self.old self.new n result }
+        ensures beside { KeepsOther self.old self.new n }
         ensures call { IsCall D.state self.old self.new }
     {
         if let Some(refusal) = self.node_is_down(n) {
@@ -38,6 +46,7 @@ impl<D: Disk + Drop> Pair<D> {
         ensures does { Does D.state self.old self.new (λ limits lasted w. start_row limits w n lasted) (told (started_told n) result) }
         ensures moments { Moments D.state self.old self.new (events.Start n) }
         ensures causes { StartCauses D.state self.old self.new n result }
+        ensures beside { KeepsOther self.old self.new n }
         ensures call { IsCall D.state self.old self.new }
     {
         if let Some(refusal) = self.start_refusal(n) {

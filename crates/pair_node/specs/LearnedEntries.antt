@@ -1,5 +1,5 @@
 -- How a node's table learns the entries of its journal, and when each answer comes.
-use Rattle.std.specs.Prelude.{◌≡◌, ℕ, ◌+◌, ◌-◌, ◌<◌, max, true, false, List, length, slice_get, slice_index, Some, Result, Ok, Err}
+use Rattle.std.specs.Prelude.{◌≡◌, ◌⊎◌, ℕ, ◌+◌, ◌-◌, ◌<◌, max, true, false, List, length, slice_get, slice_index, Some, Result, Ok, Err}
 use Rattle.ali_base.specs.Faults.{Rose}
 use Rattle.crash_disk.specs.DiskState.{DiskState}
 use Rattle.node_journal.specs.OpenJournal as journal
@@ -31,6 +31,10 @@ abbrev pub IsNotDueAt : {D : Type 0} → (D → DiskState) → Node D → Node D
 IsNotDueAt state old new k =
     let table = office_of new in
     (entry : Entry) × IsEntryAt state (journal_of old) k entry × (IsDue table.state entry → ⊥)
+
+-- frame k of the journal, the one after those that are learned, is gone, or its entry may not be booked after them
+abbrev pub IsBadFrame : {D : Type 0} → (D → DiskState) → Node D → Node D → ℕ → Type 0
+IsBadFrame state old new k = (k ≡ learned_of new + 1) × (IsGone state (journal_of old) k ⊎ IsNotDueAt state old new k)
 
 -- More entries of the journal are learned, or none: no byte is changed, nothing of the journal, and the latest epoch stays. The table has the history from before with so many entries behind it, and they are the journal's next ones.
 pub record Learns {D : Type 0} (state : D → DiskState) (old new : Node D) : Type 0 where

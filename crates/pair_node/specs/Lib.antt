@@ -5,5 +5,3 @@ pub mod LearnedEntries
 pub mod Messages
 pub mod StoredMessage
 pub mod Decisions
-pub mod LoneNode
-pub mod LoneAnswers

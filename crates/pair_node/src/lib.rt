@@ -3,15 +3,13 @@
 
 mod faults;
 mod learning;
-mod lone_node;
 mod message;
 mod node;
 mod restarting;
 mod sending;
 mod storing;
 
-pub use faults::{LearnFault, LoneEnd, LoneFault, StartFault};
-pub use lone_node::{Booked, LoneNode, Started};
+pub use faults::{LearnFault, StartFault};
 pub use message::{Ack, Delivered, Message, What};
 pub use node::Node;
 pub use node_journal::{AppendFault, DiskFault, ReadFault};

@@ -1,10 +1,12 @@
 -- Which step of the world an event is, by what is told of it.
-use Rattle.std.specs.Prelude.{ℕ, List, ◌≡◌}
+use Rattle.std.specs.Prelude.{ℕ, List, ◌≡◌, Bool, Option, Some, None}
 use Rattle.office_entry.specs.declared.entry.Entry.{Entry}
 use Rattle.office_state.specs.declared.limits.Limits.{Limits}
 use Rattle.pair_world.specs.Step.{Bounds, Event, Fails, HearsEpoch, WorldStep}
 use Rattle.pair_world.specs.World.{World}
+use Rattle.world_rows.specs.Counts.{Counts}
 use Rattle.world_rows.specs.Histories.{due_after}
+use Rattle.world_rows.specs.Rows.{Row, Gives}
 use Rattle.world_rows.specs.Told.{Told, Refused, Not_due, Failed, Behind, Foreign, Damaged}
 
 -- A request for the number of ten digits.
@@ -20,3 +22,8 @@ IsStep limits bounds w event (Foreign disk) v = ⊥
 IsStep limits bounds w event (Damaged disk frame) v = ⊥
 IsStep limits bounds w event (Behind len number) v = HearsEpoch w event v
 IsStep limits bounds w event told v = WorldStep (due_after limits) bounds w event v
+
+-- The row of an event gives what is told, and the world is then this one; or memory ran out, and it stays. lasted says of a disk in doubt that its failed write did last.
+abbrev pub Comes : Counts → Counts → World Entry → (Bool → World Entry → Row Told (World Entry)) → Option Told → World Entry → Type 0
+Comes before now w row None v = v ≡ w
+Comes before now w row (Some told) v = (lasted : Bool) × Gives before now Failed w (row lasted w) told v

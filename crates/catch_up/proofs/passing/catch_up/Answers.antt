@@ -2,12 +2,13 @@ use Rattle.std.proofs.Common.{◌≡◌, ◌∙◌, ◌<◌, ℕ, sym, ap, subst
 use Rattle.std.proofs.lemmas.Result.{err_from_is_err_and}
 use Rattle.ali_base.specs.declared.duty.Duty.{Duty}
 use Rattle.pair_core.specs.Pair.{len_of}
+use Rattle.pair_core.specs.PairAnswers.{PassKeeps}
 use Rattle.pair_core.specs.PairRefusals as rows
 use Rattle.pair_core.specs.declared.faults.PairFault.{PairFault}
 use Rattle.pair_core.specs.PairRefusals.{catch_up_refusal}
 use Rattle.catch_up.specs.CatchUpAnswers.{CatchesUpDoes, CatchUpCauses}
 use Rattle.catch_up.specs.Plan.{next_of}
-use Rattle.catch_up.proofs.OnWay.{IsOnWay, distance_of, nothing_yet, moments_on, refused_does, first_on_way, passes_on, comes_closer, is_answer, ends_does, ends_causes, ends_course, ends_call, heard_is, end_does, end_causes, few_frames}
+use Rattle.catch_up.proofs.OnWay.{IsOnWay, distance_of, nothing_yet, moments_on, refused_does, refused_beside, first_on_way, passes_on, comes_closer, is_answer, ends_does, ends_causes, ends_course, ends_beside, ends_call, heard_is, end_does, end_causes, few_frames}
 use Rattle.catch_up.proofs.passing.catch_up.Given.{Over}
 use Rattle.catch_up.proofs.passing.catch_up.Goals as goal
 
@@ -16,6 +17,9 @@ returns-in-Some-clause-does g c = refused_does g.D.Disk.state c.args.pair.now c.
 
 pub returns-in-Some-clause-moments : goal.returns-in-Some-clause-moments
 returns-in-Some-clause-moments g c = nothing_yet g.D.Disk.state c.args.pair.now g.met.D.Disk.sound
+
+pub returns-in-Some-clause-beside : goal.returns-in-Some-clause-beside
+returns-in-Some-clause-beside g c = refused_beside c.args.pair.now c.in-Some.refusal
 
 pub loop-k-init : goal.loop-k-init
 loop-k-init g c = first_on_way g.D.Disk.state c.args.pair.now (next_of c.new-plan.result) g.met.D.Disk.sound (sym c.catch_up_refusal.ensures ∙ c.in_default.is) (c.new-plan.ensures ∙ ap Some c.first_number.ensures)
@@ -56,6 +60,11 @@ pub returns-in_err-delivered-clause-keeps : goal.returns-in_err-delivered-clause
 returns-in_err-delivered-clause-keeps g c =
     let told = c.in_err-delivered.ensures in
     ends_course g.D.Disk.state c.args.pair.now c.loop-k.pair c.pass_on.new.self c.in-Some-next.k (on_way g c) told.call (not_refused g c) c.in_err-delivered.field-0.0 told.causes
+
+pub returns-in_err-delivered-clause-beside : goal.returns-in_err-delivered-clause-beside
+returns-in_err-delivered-clause-beside g c =
+    subst (λ (r : Result ℕ PairFault). PassKeeps c.args.pair.now c.pass_on.new.self r) (sym (result_is g c))
+    (ends_beside g.D.Disk.state c.args.pair.now c.loop-k.pair c.pass_on.new.self c.in-Some-next.k (on_way g c) c.in_err-delivered.ensures.call (not_refused g c) c.in_err-delivered.field-0.0 c.in_err-delivered.ensures.beside)
 
 pub heard-requires : goal.heard-requires
 heard-requires g c =
@@ -99,3 +108,8 @@ returns-clause-causes g c =
 
 pub returns-clause-moments : goal.returns-clause-moments
 returns-clause-moments g c = c.loop-k.invariant.moments
+
+pub returns-clause-beside : goal.returns-clause-beside
+returns-clause-beside g c =
+    let way = subst (λ (o : Option ℕ). IsOnWay g.D.Disk.state c.args.pair.now c.loop-k.pair o) (sym c.next.ensures ∙ c.in_default-next.is) c.loop-k.invariant in
+    (way.sent, tt)

@@ -1,5 +1,5 @@
 use Rattle.std.proofs.lemmas.List.Elements.{recursion_from_All}
-use Rattle.command_machine.specs.Commands.{IsCommand}
+use Rattle.office_commands.specs.Commands.{IsCommand}
 use Rattle.command_machine.proofs.Lawful.{step_keeps, part_keeps, replies_keep}
 use Rattle.command_machine.proofs.laws.steps_keep_machines_lawful.Goals as goal
 

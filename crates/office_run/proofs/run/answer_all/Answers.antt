@@ -2,8 +2,8 @@ use Rattle.std.proofs.Common.{◌≡◌, ◌≢◌, [], arith, sym}
 use Rattle.std.proofs.lemmas.Grind.{common_steps}
 use Rattle.std.specs.Io.KnownBytes.{Appends}
 use Rattle.ali_base.specs.WholePuts.{AppendsPart}
-use Rattle.command_machine.specs.MadeReply.{command_of, reply_of, table_of}
-use Rattle.command_machine.specs.ReplyText.{reply_text}
+use Rattle.command_desk.specs.MadeReply.{command_of, replies_of, table_of}
+use Rattle.command_machine.specs.ReplyText.{text_of}
 use Rattle.office_run.proofs.Serving.{served_none, served_more, served_part, served_some, served_stop, served_all}
 use Rattle.office_run.proofs.run.answer_all.Goals as goal
 
@@ -31,24 +31,24 @@ returns-in-Err-clause-serves g c =
 pub returns-then-is_err-clause-serves : goal.returns-then-is_err-clause-serves
 returns-then-is_err-clause-serves g c =
     let contents = g.K.Sink.contents in
-    let told = reply_text (reply_of (table_of c.carry_out.new.self) c.carry_out.new.self.job c.in-Ok.reply) in
+    let told = text_of (replies_of (table_of c.carry_out.new.self) c.carry_out.new.self.job c.in-Ok.told) in
     let part : AppendsPart (contents c.loop-rest.sink) (contents c.put.new.sink) told = grind (arith, common_steps, c.put.ensures.put.part) in
     served_part g.D.Disk.state c.args.script.now (contents c.args.sink.now) (contents c.loop-rest.sink) (contents c.put.new.sink)
     c.loop-rest.rest.now c.args.desk.now c.loop-rest.desk c.loop-rest.count c.loop-rest.invariant.served
     c.carry_out.new.self (command_of c.in-Some.found.0) c.in-Some.found.1.now c.in-Some.ensures.command
-    c.in-Ok.reply c.requires.opened c.in-Ok.ensures.carries c.in-Ok.ensures.switches c.in-Ok.ensures.keeps part
+    c.in-Ok.told c.requires.opened c.in-Ok.ensures.carries c.in-Ok.ensures.switches c.in-Ok.ensures.keeps part
 
 -- a reply that owns memory is dropped at the end of the turn
 pub loop-rest-preserved-else-is_err : goal.loop-rest-preserved-else-is_err
 loop-rest-preserved-else-is_err g c =
     let contents = g.K.Sink.contents in
-    let told = reply_text (reply_of (table_of c.carry_out.new.self) c.carry_out.new.self.job c.in-Ok.reply) in
+    let told = text_of (replies_of (table_of c.carry_out.new.self) c.carry_out.new.self.job c.in-Ok.told) in
     let whole : Appends (contents c.loop-rest.sink) (contents c.put.new.sink) told = grind (arith, common_steps, c.put.ensures.put.whole) in
     record {
       served = served_more g.D.Disk.state c.args.script.now (contents c.args.sink.now) (contents c.loop-rest.sink) (contents c.put.new.sink)
           c.loop-rest.rest.now c.args.desk.now c.loop-rest.desk c.loop-rest.count c.loop-rest.invariant.served
           c.carry_out.new.self (command_of c.in-Some.found.0) c.in-Some.found.1.now c.in-Some.ensures.command
-          c.in-Ok.reply c.in-Ok.ensures.carries c.in-Ok.ensures.switches c.in-Ok.ensures.keeps whole;
+          c.in-Ok.told c.in-Ok.ensures.carries c.in-Ok.ensures.switches c.in-Ok.ensures.keeps whole;
       small = omega (arith, c.in-Some.ensures.shorter);
       later = omega (arith, c.loop-rest.invariant.later, c.put.ensures.put.later);
     }
@@ -57,13 +57,13 @@ loop-rest-preserved-else-is_err g c =
 pub loop-rest-preserved : goal.loop-rest-preserved
 loop-rest-preserved g c =
     let contents = g.K.Sink.contents in
-    let told = reply_text (reply_of (table_of c.carry_out.new.self) c.carry_out.new.self.job c.in-Ok.reply) in
+    let told = text_of (replies_of (table_of c.carry_out.new.self) c.carry_out.new.self.job c.in-Ok.told) in
     let whole : Appends (contents c.loop-rest.sink) (contents c.put.new.sink) told = grind (arith, common_steps, c.put.ensures.put.whole) in
     record {
       served = served_more g.D.Disk.state c.args.script.now (contents c.args.sink.now) (contents c.loop-rest.sink) (contents c.put.new.sink)
           c.loop-rest.rest.now c.args.desk.now c.loop-rest.desk c.loop-rest.count c.loop-rest.invariant.served
           c.carry_out.new.self (command_of c.in-Some.found.0) c.in-Some.found.1.now c.in-Some.ensures.command
-          c.in-Ok.reply c.in-Ok.ensures.carries c.in-Ok.ensures.switches c.in-Ok.ensures.keeps whole;
+          c.in-Ok.told c.in-Ok.ensures.carries c.in-Ok.ensures.switches c.in-Ok.ensures.keeps whole;
       small = omega (arith, c.in-Some.ensures.shorter);
       later = omega (arith, c.loop-rest.invariant.later, c.put.ensures.put.later);
     }

@@ -24,3 +24,18 @@ returns-in-Err-NoMemory-clause-exit g c =
     let P : InputFault → Type 0 = λ fault. InputStops g.S.Source.left g.S.Source.faults c.args.source.now c.read_all.new.source fault in
     let nothing : Keeps held held = search rules in
     inr (inl (idle g.D.Disk.state c.args.desk.now c.requires.opened, subst P c.in-Err-NoMemory.field-0-is c.in-Err-NoMemory.ensures.fault, nothing))
+
+pub returns-in-Err-Failed-clause-exit : goal.returns-in-Err-Failed-clause-exit
+returns-in-Err-Failed-clause-exit g c =
+    let held = g.K.Sink.contents c.args.sink.now in
+    let P : InputFault → Type 0 = λ fault. InputStops g.S.Source.left g.S.Source.faults c.args.source.now c.read_all.new.source fault in
+    let nothing : Keeps held held = search rules in
+    let stops = subst P c.in-Err-Failed.field-0-is c.in-Err-Failed.ensures.fault in
+    (stops.0, nothing, idle g.D.Disk.state c.args.desk.now c.requires.opened)
+
+pub returns-in-Err-TooLong-clause-exit : goal.returns-in-Err-TooLong-clause-exit
+returns-in-Err-TooLong-clause-exit g c =
+    let held = g.K.Sink.contents c.args.sink.now in
+    let P : InputFault → Type 0 = λ fault. InputStops g.S.Source.left g.S.Source.faults c.args.source.now c.read_all.new.source fault in
+    let nothing : Keeps held held = search rules in
+    (subst P c.in-Err-TooLong.field-0-is c.in-Err-TooLong.ensures.fault, nothing, idle g.D.Disk.state c.args.desk.now c.requires.opened)

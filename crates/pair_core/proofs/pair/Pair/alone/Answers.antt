@@ -18,6 +18,7 @@ use Rattle.pair_core.specs.PairRefusals as rows
 use Rattle.pair_core.proofs.PairDuty.{change_does, moments_of}
 use Rattle.pair_core.proofs.PairRows as own
 use Rattle.pair_core.proofs.PairShown.{all_quiet}
+use Rattle.pair_core.proofs.PairBeside.{change_keeps}
 use Rattle.pair_core.proofs.pair.Pair.alone.Goals as goal
 
 pub change-requires-clause-up : goal.change-requires-clause-up
@@ -79,3 +80,8 @@ returns-clause-moments g c limits w shown lawful =
     (Failed disks.Duty) left (own.alone_row state limits p w shown) none (inl (refl, refl, omega arith))) in
     moments_of state limits p new w shown w.base.duty.holder Alone w.base.booked (count_of p) shown.count up events.Go_alone c.change.result g.met.D.Disk.sound (inr fails)
     (subst (λ h. IsChange state p new (next_duty (duty_of p) h Alone (count_of p)) c.change.result) h_is c.change.ensures.changed)
+
+pub returns-clause-beside : goal.returns-clause-beside
+returns-clause-beside g c =
+    let p = c.args.self.now in
+    change_keeps p c.change.new.self g.D.Disk.state (next_duty (duty_of p) (rows.holder p) Alone (count_of p)) c.change.result c.change.ensures.changed

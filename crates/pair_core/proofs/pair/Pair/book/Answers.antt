@@ -1,7 +1,7 @@
 use Rattle.std.proofs.Common.{◌∙◌, sym, arith, Ok, Err}
 use Rattle.crash_disk.proofs.Runs.{stays_here}
 use Rattle.pair_world.specs.Step.{Book}
-use Rattle.pair_node.specs.declared.lone_node.Booked.{Booked as BookedEntry}
+use Rattle.pair_core.specs.declared.pair_writes.Booked.{Booked as BookedEntry}
 use Rattle.pair_core.specs.Pair.{count_of}
 use Rattle.pair_core.specs.PairAnswers.{BookRest}
 use Rattle.pair_core.specs.PairRefusals as rows
@@ -9,6 +9,7 @@ use Rattle.pair_core.proofs.PairLearned.{course_kept, is_call}
 use Rattle.pair_core.proofs.PairReady.{where_passed}
 use Rattle.pair_core.proofs.PairShown.{all_quiet, all_stay}
 use Rattle.pair_core.proofs.PairBooked.{book_passed, book_refused, book_unread, booked_does, booked_moments, booked_causes, booked_call, unbooked}
+use Rattle.pair_core.proofs.PairBeside.{beside_keeps, counted_keeps, keeps_on}
 use Rattle.pair_core.proofs.pair.Pair.book.Goals as goal
 
 pub learn-requires : goal.learn-requires
@@ -117,3 +118,25 @@ returns-in-Err-learn_next-clause-call g c =
     let next = c.in-Err-learn_next.ensures in
     let told = unbooked state p c.learn.new.self new (rows.holder p) passed.register_up passed.pending r.learned r.causes c.learn_next.new.self g.met.D.Disk.sound c.in-Err-learn_next.fault c.not_learned.result next.answer next.learns next.counts c.not_learned.ensures in
     is_call state p new (rows.holder p) told.learned.1.nodes told.learned.1.register told.learned.0.journal.fixed (omega (arith, told.learned.1.count))
+
+pub returns-in-Err-clause-beside : goal.returns-in-Err-clause-beside
+returns-in-Err-clause-beside g c = beside_keeps c.args.self.now c.learn.new.self (rows.holder c.args.self.now) c.in-Err.ensures.learned.1
+
+pub returns-in-Ok-clause-beside : goal.returns-in-Ok-clause-beside
+returns-in-Ok-clause-beside g c =
+    let p = c.args.self.now in
+    let mid = c.learn.new.self in
+    let new = c.learn_next.new.self in
+    let n = rows.holder p in
+    keeps_on p mid new n (beside_keeps p mid n c.in_default-learn.ensures.learned.1) (counted_keeps mid new n c.in-Ok.ensures.counts)
+
+pub returns-in-Err-learn_next-clause-beside : goal.returns-in-Err-learn_next-clause-beside
+returns-in-Err-learn_next-clause-beside g c =
+    let state = g.D.Disk.state in
+    let p = c.args.self.now in
+    let new = c.not_learned.new.self in
+    let passed = book_passed p (sym c.book_refusal.ensures ∙ c.in_default.is) in
+    let r = c.in_default-learn.ensures in
+    let next = c.in-Err-learn_next.ensures in
+    let told = unbooked state p c.learn.new.self new (rows.holder p) passed.register_up passed.pending r.learned r.causes c.learn_next.new.self g.met.D.Disk.sound c.in-Err-learn_next.fault c.not_learned.result next.answer next.learns next.counts c.not_learned.ensures in
+    beside_keeps p new (rows.holder p) told.learned.1

@@ -1,4 +1,5 @@
 use Rattle.std.proofs.Common.{◌≡◌, ◌∙◌, ℕ, ◌-◌, length, refl, sym, ap, subst, Option, Err, false}
+use Rattle.std.specs.Prelude.{slice_get}
 use Rattle.ali_base.specs.declared.names.NodeName.TheVariants.{A}
 use Rattle.crash_disk.proofs.Runs.{stays_here}
 use Rattle.office_entry.specs.declared.entry.Entry.{Entry}
@@ -9,7 +10,7 @@ use Rattle.world_rows.specs.Rows.{Gives}
 use Rattle.world_rows.specs.Told.{Failed, Refused}
 use Rattle.world_rows.specs.WorldRows.{message_row}
 use Rattle.pair_core.specs.Pair.{counts_of, sent_of}
-use Rattle.pair_core.specs.PairAnswers.{DeliverCauses}
+use Rattle.pair_core.specs.PairAnswers.{DeliverCauses, DeliverKeeps}
 use Rattle.pair_core.specs.declared.faults.PairFault.TheVariants as fault
 use Rattle.pair_core.specs.declared.sent.Sent.{Sent}
 use Rattle.pair_core.specs.declared.sent.Sent.TheVariants as sent
@@ -17,6 +18,7 @@ use Rattle.pair_core.proofs.PairMessages.{still_moments}
 use Rattle.pair_core.proofs.PairReceived as receiving
 use Rattle.pair_core.proofs.PairShipped.{many}
 use Rattle.pair_core.proofs.PairStored.{got_some, got_none}
+use Rattle.pair_core.proofs.PairBeside.{delivered_here, heard_keeps}
 use Rattle.pair_core.proofs.pair.Pair.deliver.Goals as goal
 
 pub deliver_ack-requires : goal.deliver_ack-requires
@@ -72,3 +74,12 @@ returns-in-Some-Acknowledgement-clause-causes g c =
 pub returns-in-Some-Acknowledgement-clause-call : goal.returns-in-Some-Acknowledgement-clause-call
 returns-in-Some-Acknowledgement-clause-call g c =
     receiving.ack_call g.D.Disk.state c.args.self.now c.in-Some-Acknowledgement.to c.in-Some-Acknowledgement.ack c.deliver_ack.new.self c.deliver_ack.result c.deliver_ack.ensures
+
+pub returns-in-None-clause-beside : goal.returns-in-None-clause-beside
+returns-in-None-clause-beside g c = delivered_here c.args.self.now (slice_get (sent_of c.args.self.now) (c.args.i - 1))
+
+pub returns-in-Some-Acknowledgement-clause-beside : goal.returns-in-Some-Acknowledgement-clause-beside
+returns-in-Some-Acknowledgement-clause-beside g c =
+    let at = got_some c.deref.result.now c.args.self.now.messages.items c.deref.ensures.value (c.args.i - 1) c.get.result c.in-Some-Acknowledgement.field-0 (sent.Acknowledgement c.in-Some-Acknowledgement.to c.in-Some-Acknowledgement.ack) c.in-Some-Acknowledgement.is c.in-Some-Acknowledgement.field-0-is c.get.ensures.lookup.0 c.get.ensures.lookup.1 in
+    subst (λ (o : Option Sent). DeliverKeeps c.args.self.now c.deliver_ack.new.self o) (sym at)
+    (heard_keeps c.args.self.now c.deliver_ack.new.self c.in-Some-Acknowledgement.to c.in-Some-Acknowledgement.ack c.deliver_ack.result c.deliver_ack.ensures)

@@ -9,9 +9,9 @@ use Rattle.pair_world.specs.Step.{Deliver}
 use Rattle.pair_world.specs.World.{World}
 use Rattle.world_rows.specs.Told.{Failed}
 use Rattle.world_rows.specs.WorldRows.{deliver_row}
-use Rattle.pair_node.specs.LoneNode.{Comes}
+use Rattle.world_rows.specs.WorldSteps.{Comes}
 use Rattle.pair_core.specs.Pair.{Shows, node_of, duty_of, counts_of, sent_of}
-use Rattle.pair_core.specs.PairAnswers.{DeliverCauses, StoreRest}
+use Rattle.pair_core.specs.PairAnswers.{DeliverCauses, StoreRest, DeliverKeeps}
 use Rattle.pair_core.specs.PairChanges.{IsBesideNode}
 use Rattle.pair_core.specs.PairMessages.{IsStoring}
 use Rattle.pair_core.specs.PairRefusals as rows
@@ -22,6 +22,7 @@ use Rattle.pair_core.proofs.PairDelivered.{made_by}
 use Rattle.pair_core.proofs.PairMessages.{sent_stays, still_moments, messages_here}
 use Rattle.pair_core.proofs.PairReceived as receiving
 use Rattle.pair_core.proofs.PairShipped.{unless_none}
+use Rattle.pair_core.proofs.PairBeside.{beside_keeps, delivered_here, messages_keep, sender_keeps}
 use Rattle.pair_core.proofs.pair.Pair.deliver_shipment.Goals as goal
 
 pub returns-in-Some-clause-does : goal.returns-in-Some-clause-does
@@ -197,3 +198,36 @@ returns-in-Err-clause-call g c =
     let stored = subst (λ r. IsStoring state (node_of p1 r) (node_of p2 r) m (Err e)) r_is (c.in-Err.ensures.stored c.args.sender m at1) in
     let d_is = ap disk_of (sym r_is) ∙ sym c.disk_of.ensures in
     receiving.store_err_call state old p1 p2 c.args.sender m c.make_room.ensures.beside c.make_room.ensures.sent none beside e stored
+
+pub returns-in-Some-clause-beside : goal.returns-in-Some-clause-beside
+returns-in-Some-clause-beside g c = delivered_here c.args.self.now (slice_get (sent_of c.args.self.now) (c.args.i - 1))
+
+pub returns-then-not-make_room-clause-beside : goal.returns-then-not-make_room-clause-beside
+returns-then-not-make_room-clause-beside g c =
+    let old = c.args.self.now in
+    let p1 = c.make_room.new.self in
+    subst (λ (o : Option Sent). DeliverKeeps old p1 o) (sym c.requires.there.1) (messages_keep old p1 c.make_room.ensures.beside c.args.sender)
+
+pub returns-in-Ok-clause-beside : goal.returns-in-Ok-clause-beside
+returns-in-Ok-clause-beside g c =
+    let old = c.args.self.now in
+    let p1 = c.make_room.new.self in
+    let p2 = c.store_sent.new.self in
+    let p3 = c.answer.new.self in
+    let sender = c.args.sender in
+    let r = c.other-receiver.result in
+    subst (λ (o : Option Sent). DeliverKeeps old p3 o) (sym c.requires.there.1)
+    (messages_keep p2 p3 c.answer.ensures.beside sender
+    ∙ sender_keeps p1 p2 sender r c.other-receiver.ensures (beside_keeps p1 p2 r c.in-Ok.ensures.beside)
+    ∙ messages_keep old p1 c.make_room.ensures.beside sender)
+
+pub returns-in-Err-clause-beside : goal.returns-in-Err-clause-beside
+returns-in-Err-clause-beside g c =
+    let old = c.args.self.now in
+    let p1 = c.make_room.new.self in
+    let p2 = c.store_sent.new.self in
+    let sender = c.args.sender in
+    let r = c.other-receiver.result in
+    subst (λ (o : Option Sent). DeliverKeeps old p2 o) (sym c.requires.there.1)
+    (sender_keeps p1 p2 sender r c.other-receiver.ensures (beside_keeps p1 p2 r c.in-Err.ensures.beside)
+    ∙ messages_keep old p1 c.make_room.ensures.beside sender)

@@ -1,4 +1,4 @@
-use Rattle.std.proofs.Common.{◌≡◌, ◌∙◌, suc, length, sym, ap, subst, Some, Ok, Err, true}
+use Rattle.std.proofs.Common.{◌≡◌, ◌∙◌, suc, length, refl, sym, ap, subst, Some, Ok, Err, true}
 use Rattle.ali_base.specs.declared.duty.Duty.{Duty}
 use Rattle.ali_base.specs.declared.names.DiskName.{DiskName}
 use Rattle.office_entry.specs.declared.entry.Entry.{Entry}
@@ -8,10 +8,10 @@ use Rattle.pair_world.specs.Step.{Deliver}
 use Rattle.pair_world.specs.World.{World, other}
 use Rattle.world_rows.specs.Counts.{RoseAt}
 use Rattle.world_rows.specs.Told.{Failed}
-use Rattle.pair_node.specs.LoneNode.{Comes}
+use Rattle.world_rows.specs.WorldSteps.{Comes}
 use Rattle.pair_node.specs.Messages.{ack_made}
-use Rattle.pair_core.specs.Pair.{Shows, AreMoments, IsCall, node_of, is_node_up, duty_of, counts_of}
-use Rattle.pair_core.specs.PairAnswers.{passed_told, PassRest}
+use Rattle.pair_core.specs.Pair.{Shows, AreMoments, IsCall, node_of, is_node_up, duty_of, sent_of, counts_of}
+use Rattle.pair_core.specs.PairAnswers.{passed_told, PassRest, SameSent, KeepsSound}
 use Rattle.pair_core.specs.PairChanges.{IsBesideNode}
 use Rattle.pair_core.specs.PairMessages.{IsStoring, IsMade, hearing}
 use Rattle.pair_core.specs.PairPassing.{pass_row}
@@ -22,6 +22,7 @@ use Rattle.pair_core.proofs.PairDelivered.{made_by}
 use Rattle.pair_core.proofs.PairPassed as passing
 use Rattle.pair_core.proofs.PairRows.{when_not}
 use Rattle.pair_core.proofs.PairShipped.{unless_none}
+use Rattle.pair_core.proofs.PairBeside.{beside_keeps, made_keeps, unmade_keeps, unstored_keeps, sound_keeps}
 use Rattle.pair_core.proofs.pair.Pair.pass_on.Goals as goal
 
 pub returns-in-Some-clause-does : goal.returns-in-Some-clause-does
@@ -245,3 +246,40 @@ returns-in-Err-store_node-clause-call g c =
     (subst (IsBesideNode p1 p2) r_is c.in-Err-store_node.ensures.beside)
     (subst (λ r. is_node_up p1 r ≡ true) r_is up) (Err e)
     (subst (λ r. IsStoring state (node_of p1 r) (node_of p2 r) m (Err e)) r_is c.in-Err-store_node.ensures.stored)
+
+pub returns-in-Some-clause-beside : goal.returns-in-Some-clause-beside
+returns-in-Some-clause-beside g c = let p = c.args.self.now in (refl, sound_keeps p p c.in-Some.refusal (λ k. refl))
+
+pub returns-in-Err-clause-beside : goal.returns-in-Err-clause-beside
+returns-in-Err-clause-beside g c = unmade_keeps c.args.self.now c.make_message.new.self g.D.Disk.state (rows.holder c.args.self.now) c.args.k c.in-Err.fault c.in-Err.ensures
+
+pub returns-in-Some-node_is_down-clause-beside : goal.returns-in-Some-node_is_down-clause-beside
+returns-in-Some-node_is_down-clause-beside g c =
+    let old = c.args.self.now in
+    let p1 = c.make_message.new.self in
+    let n = rows.holder old in
+    let up = passing.passing_up old c.args.k (sym c.shipping_refusal.ensures ∙ c.in_default.is) in (
+      (beside_keeps old p1 n c.in-Ok.ensures.beside).1,
+      sound_keeps old p1 c.in-Some-node_is_down.refusal (made_keeps old p1 g.D.Disk.state n c.args.k c.in-Ok.message up c.in-Ok.ensures),
+    )
+
+pub returns-in-Ok-store_node-clause-beside : goal.returns-in-Ok-store_node-clause-beside
+returns-in-Ok-store_node-clause-beside g c =
+    let old = c.args.self.now in
+    let p1 = c.make_message.new.self in
+    let p2 = c.store_node.new.self in
+    let stored = (beside_keeps p1 p2 c.other-receiver.result c.in-Ok-store_node.ensures.beside).1 in
+    let made = (beside_keeps old p1 (rows.holder old) c.in-Ok.ensures.beside).1 in
+    (ap (λ (q : Pair g.row.D.Denot). sent_of q) c.hear_answer.ensures ∙ stored ∙ made, tt)
+
+pub returns-in-Err-store_node-clause-beside : goal.returns-in-Err-store_node-clause-beside
+returns-in-Err-store_node-clause-beside g c =
+    let old = c.args.self.now in
+    let p1 = c.make_message.new.self in
+    let p2 = c.store_node.new.self in
+    let n = rows.holder old in
+    let r = c.other-receiver.result in
+    let up = passing.passing_up old c.args.k (sym c.shipping_refusal.ensures ∙ c.in_default.is) in
+    subst (λ (d : DiskName). SameSent old p2 × KeepsSound old p2 (fault.Fault d)) (sym c.disk_of.ensures)
+    (unstored_keeps old p1 p2 r (made_keeps old p1 g.D.Disk.state n c.args.k c.in-Ok.message up c.in-Ok.ensures) (beside_keeps old p1 n c.in-Ok.ensures.beside).1
+    (beside_keeps p1 p2 r c.in-Err-store_node.ensures.beside))

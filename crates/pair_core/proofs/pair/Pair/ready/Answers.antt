@@ -12,6 +12,7 @@ use Rattle.pair_core.proofs.PairReady.{ready_does, up_of}
 use Rattle.pair_core.proofs.PairRows as own
 use Rattle.pair_core.proofs.PairShown.{all_quiet, all_stay}
 use Rattle.crash_disk.proofs.Runs.{stays_here}
+use Rattle.pair_core.proofs.PairBeside.{beside_keeps}
 use Rattle.pair_core.proofs.pair.Pair.ready.Goals as goal
 
 pub learn-requires : goal.learn-requires
@@ -45,3 +46,6 @@ returns-clause-moments g c event limits w shown lawful =
     let new = c.learn.new.self in
     let learned = c.learn.ensures.learned in
     all_quiet state limits old new w event shown g.met.D.Disk.sound (all_stay state old new c.args.n learned.1 learned.0.journal.stays)
+
+pub returns-clause-beside : goal.returns-clause-beside
+returns-clause-beside g c = beside_keeps c.args.self.now c.learn.new.self c.args.n c.learn.ensures.learned.1

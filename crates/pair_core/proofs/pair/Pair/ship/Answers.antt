@@ -1,6 +1,7 @@
 use Rattle.std.proofs.Common.{◌∙◌, sym, Ok, Err}
 use Rattle.crash_disk.proofs.Runs.{stays_here, stays_on}
 use Rattle.pair_world.specs.Step as events
+use Rattle.pair_world.specs.World.{other}
 use Rattle.pair_core.specs.Pair.{disk_at}
 use Rattle.pair_core.specs.PairAnswers.{ShipRest}
 use Rattle.pair_core.specs.PairRefusals as rows
@@ -8,6 +9,7 @@ use Rattle.pair_core.proofs.PairMessages.{sent_stays, sent_call, call_on}
 use Rattle.pair_core.proofs.PairShipped as shipping
 use Rattle.pair_core.proofs.PairShipped.{unless_none}
 use Rattle.pair_core.proofs.PairShown.{all_quiet}
+use Rattle.pair_core.proofs.PairBeside.{beside_keeps, room_keeps, messages_keep, keeps_on}
 use Rattle.pair_core.proofs.pair.Pair.ship.Goals as goal
 
 pub returns-in-Some-clause-does : goal.returns-in-Some-clause-does
@@ -77,3 +79,23 @@ returns-in-Err-clause-causes g c =
 pub returns-in-Err-clause-call : goal.returns-in-Err-clause-call
 returns-in-Err-clause-call g c =
     shipping.ship_call g.D.Disk.state c.args.self.now c.make_room.new.self c.make_message.new.self c.args.n c.args.k c.make_room.ensures.beside (sym c.ship_refusal.ensures ∙ c.in_default.is) (Err c.in-Err.fault) c.in-Err.ensures
+
+pub returns-then-not-make_room-clause-beside : goal.returns-then-not-make_room-clause-beside
+returns-then-not-make_room-clause-beside g c = room_keeps c.args.self.now c.make_room.new.self c.make_room.ensures.beside c.make_room.ensures.sent c.args.n
+
+pub returns-in-Ok-clause-beside : goal.returns-in-Ok-clause-beside
+returns-in-Ok-clause-beside g c =
+    let n = c.args.n in
+    let old = c.args.self.now in
+    let p1 = c.make_room.new.self in
+    let p2 = c.make_message.new.self in
+    let made = keeps_on old p1 p2 n (room_keeps old p1 c.make_room.ensures.beside c.make_room.ensures.sent n) (beside_keeps p1 p2 n c.in-Ok.ensures.beside) in
+    (messages_keep p2 c.send.new.self c.send.ensures.beside (other n) ∙ made.0, tt)
+
+pub returns-in-Err-clause-beside : goal.returns-in-Err-clause-beside
+returns-in-Err-clause-beside g c =
+    let n = c.args.n in
+    let old = c.args.self.now in
+    let p1 = c.make_room.new.self in
+    let p2 = c.make_message.new.self in
+    keeps_on old p1 p2 n (room_keeps old p1 c.make_room.ensures.beside c.make_room.ensures.sent n) (beside_keeps p1 p2 n c.in-Err.ensures.beside)

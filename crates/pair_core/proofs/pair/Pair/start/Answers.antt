@@ -6,6 +6,7 @@ use Rattle.pair_node.specs.StartedNode.{IsStarted, RestartAnswers, asked_again}
 use Rattle.pair_core.specs.Pair.{duty_of, node_of}
 use Rattle.pair_core.proofs.PairShown.{all_quiet, all_stay}
 use Rattle.pair_core.proofs.PairStarted as own
+use Rattle.pair_core.proofs.PairBeside.{beside_keeps}
 use Rattle.pair_core.proofs.pair.Pair.start.Goals as goal
 
 pub returns-in-Some-clause-moments : goal.returns-in-Some-clause-moments
@@ -59,3 +60,9 @@ returns-in-Err-clause-causes g c =
     own.unless state p new n (Err c.pair_fault.result) none
     (own.refused_rest state p new n c.in-Err.ensures.beside c.in-Err.fault c.pair_fault.result c.pair_fault.ensures (own.was_down_for p n none)
     (subst (λ (need : ℕ). RestartAnswers state (node_of p n) (node_of new n) (duty_of p).epoch need (Err c.in-Err.fault)) c.needed_length-need.ensures c.in-Err.ensures.answers))
+
+pub returns-in-Ok-clause-beside : goal.returns-in-Ok-clause-beside
+returns-in-Ok-clause-beside g c = beside_keeps c.args.self.now c.restart_node.new.self c.args.n c.in-Ok.ensures.beside
+
+pub returns-in-Err-clause-beside : goal.returns-in-Err-clause-beside
+returns-in-Err-clause-beside g c = beside_keeps c.args.self.now c.restart_node.new.self c.args.n c.in-Err.ensures.beside

@@ -6,7 +6,7 @@ use Rattle.crash_disk.specs.CrashOutcomes.{Stays}
 use Rattle.duty_register.specs.declared.register.Register.{Register}
 use Rattle.duty_register.specs.OpenRegister as register
 use Rattle.office_entry.specs.declared.entry.Entry.{Entry}
-use Rattle.pair_node.specs.LoneNode.{Comes}
+use Rattle.world_rows.specs.WorldSteps.{Comes}
 use Rattle.pair_world.specs.World.{World}
 use Rattle.world_rows.specs.WorldRows.{start_duty_row}
 use Rattle.pair_core.specs.Pair.{Shows, counts_of, disk_at}
@@ -15,6 +15,7 @@ use Rattle.pair_core.specs.PairAnswers.{fault_told}
 use Rattle.pair_core.specs.PairDuties.{IsRead}
 use Rattle.pair_core.specs.declared.faults.PairFault.{PairFault}
 use Rattle.pair_core.proofs.PairRegisterStarted.{Images, read_stays, read_journals, entered_journals, start_moments, refused_read, never_another, started_does}
+use Rattle.pair_core.proofs.PairBeside.{register_keeps, enter_keeps, nodes_on}
 use Rattle.pair_core.proofs.pair.Pair.start_duty.Goals as goal
 
 some_failed : (o : Option Duty) (d : Duty) → o ≡ Some d → is_none o ≡ false
@@ -86,3 +87,16 @@ returns-clause-moments g c limits w shown lawful =
     let beside = c.read_duty.ensures.beside in
     let stays = subst (λ (r : Register g.row.D.Denot). Stays (state (disk_at p disks.Duty)) (state (register.disk_of r))) (sym c.enter_duty.ensures.register) (read_stays state p mid c.read_duty.result c.read_duty.ensures) in
     start_moments state p new (entered_journals state p mid new duty c.max.result beside c.enter_duty.ensures) stays limits w shown g.met.D.Disk.sound
+
+pub returns-in-Err-clause-beside : goal.returns-in-Err-clause-beside
+returns-in-Err-clause-beside g c = register_keeps c.args.self.now c.read_duty.new.self c.read_duty.ensures.beside
+
+pub returns-then-is_another-clause-beside : goal.returns-then-is_another-clause-beside
+returns-then-is_another-clause-beside g c = register_keeps c.args.self.now c.read_duty.new.self c.read_duty.ensures.beside
+
+pub returns-clause-beside : goal.returns-clause-beside
+returns-clause-beside g c =
+    let p = c.args.self.now in
+    let mid = c.read_duty.new.self in
+    let new = c.enter_duty.new.self in
+    nodes_on p mid new (register_keeps p mid c.read_duty.ensures.beside) (enter_keeps mid new c.duty-duty.result c.max.result c.enter_duty.ensures)

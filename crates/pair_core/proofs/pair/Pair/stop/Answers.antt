@@ -14,6 +14,7 @@ use Rattle.pair_core.specs.Pair.{counts_of}
 use Rattle.pair_core.specs.PairRefusals as rows
 use Rattle.pair_core.proofs.PairRows.{passed, node_is_down}
 use Rattle.pair_core.proofs.PairShown.{node_stopped, all_quiet, all_stay, stopped_stays}
+use Rattle.pair_core.proofs.PairBeside.{beside_keeps}
 use Rattle.pair_core.proofs.pair.Pair.stop.Goals as goal
 
 pub returns-in-Some-clause-moments : goal.returns-in-Some-clause-moments
@@ -93,3 +94,9 @@ returns-else-is_node-clause-moments g c limits w shown lawful =
     let old = c.args.self.now in
     let quiet = all_quiet state limits old c.stop_node.new.self w (events.Stop c.args.n) shown g.met.D.Disk.sound (all_stay state old c.stop_node.new.self c.args.n c.stop_node.ensures.beside (stopped_stays state old c.stop_node.new.self c.args.n c.stop_node.ensures.stopped)) in
     record { a = quiet.a; b = quiet.b; duty = quiet.duty }
+
+pub returns-then-is_node-clause-beside : goal.returns-then-is_node-clause-beside
+returns-then-is_node-clause-beside g c = beside_keeps c.args.self.now c.stop_node.new.self c.args.n c.stop_node.ensures.beside
+
+pub returns-else-is_node-clause-beside : goal.returns-else-is_node-clause-beside
+returns-else-is_node-clause-beside g c = beside_keeps c.args.self.now c.stop_node.new.self c.args.n c.stop_node.ensures.beside

@@ -1,4 +1,4 @@
-use Rattle.std.proofs.Common.{◌≡◌, ◌∙◌, ℕ, refl, sym, subst, inl, inr, [], ◌∷◌, true, length, arith}
+use Rattle.std.proofs.Common.{◌≡◌, ◌∙◌, ℕ, refl, sym, subst, inl, inr, [], ◌∷◌, true, length, arith, Err}
 use Rattle.ali_base.specs.Duties.{next_duty}
 use Rattle.ali_base.specs.declared.duty.Mode.TheVariants.{Alone}
 use Rattle.ali_base.specs.declared.names.DiskName.TheVariants as disks
@@ -23,6 +23,7 @@ use Rattle.pair_core.proofs.PairReport.{long}
 use Rattle.pair_core.proofs.PairRows as own
 use Rattle.pair_core.proofs.PairShown.{all_quiet, all_stay, stopped_stays}
 use Rattle.pair_core.proofs.PairTaken.{taker_up}
+use Rattle.pair_core.proofs.PairBeside.{beside_keeps, change_keeps, taker_keeps, taker_here}
 use Rattle.pair_core.proofs.pair.Pair.take.Goals as goal
 
 pub change-requires-clause-up : goal.change-requires-clause-up
@@ -115,3 +116,15 @@ returns-then-len-self-clause-does g c limits w shown lawful =
     let long_is = long state limits p w shown n (taker_up p n none) in
     let short = c.if-len-self.true in
     absurd (omega (arith, grows, len_is, long_is, short, shown.count))
+
+pub returns-in-Some-clause-beside : goal.returns-in-Some-clause-beside
+returns-in-Some-clause-beside g c = taker_here c.args.self.now c.args.n (Err c.in-Some.refusal)
+
+pub returns-then-len-self-clause-beside : goal.returns-then-len-self-clause-beside
+returns-then-len-self-clause-beside g c = (beside_keeps c.args.self.now c.stop_node.new.self c.args.n c.stop_node.ensures.beside, tt)
+
+pub returns-clause-beside : goal.returns-clause-beside
+returns-clause-beside g c =
+    let p = c.args.self.now in
+    let new = c.change.new.self in
+    taker_keeps p new c.args.n c.change.result (change_keeps p new g.D.Disk.state (next_duty (duty_of p) c.args.n Alone c.len-len.result) c.change.result c.change.ensures.changed)

@@ -6,6 +6,7 @@ use Rattle.pair_core.specs.PairRefusals as rows
 use Rattle.pair_core.proofs.PairReady.{where_passed}
 use Rattle.pair_core.proofs.PairShown.{all_quiet, all_stay}
 use Rattle.pair_core.proofs.PairWritten.{write_passed, write_refused, write_unread, append_does, append_moments, append_causes, append_call}
+use Rattle.pair_core.proofs.PairBeside.{beside_keeps, append_keeps, keeps_on}
 use Rattle.pair_core.proofs.pair.Pair.write.Goals as goal
 
 pub learn-requires : goal.learn-requires
@@ -56,3 +57,14 @@ returns-clause-causes g c =
     let none = sym c.write_refusal.ensures ∙ c.in_default.is in
     where_passed (rows.write_refusal p n) p new c.append.result (WriteRest state p new n c.args.e.now c.append.result) none
     (append_causes state p c.learn.new.self new n c.args.e.now (write_passed p n none) c.in_default-learn.ensures.learned c.in_default-learn.ensures.causes c.append.result c.append.ensures)
+
+pub returns-in-Err-clause-beside : goal.returns-in-Err-clause-beside
+returns-in-Err-clause-beside g c = beside_keeps c.args.self.now c.learn.new.self c.args.n c.in-Err.ensures.learned.1
+
+pub returns-clause-beside : goal.returns-clause-beside
+returns-clause-beside g c =
+    let p = c.args.self.now in
+    let mid = c.learn.new.self in
+    let new = c.append.new.self in
+    keeps_on p mid new c.args.n (beside_keeps p mid c.args.n c.in_default-learn.ensures.learned.1)
+    (append_keeps mid new c.args.n g.D.Disk.state c.args.e.now c.append.result c.append.ensures)

@@ -1,0 +1,39 @@
+use Rattle.std.proofs.Common.{refl, rules}
+use Rattle.command_desk.proofs.Leading.{order_leads, order_refused}
+use Rattle.command_desk.proofs.OrderSwitches.{refused_switched, book_refused_switches, booked_advances, booked_switches}
+use Rattle.command_desk.specs.declared.desk.Desk.{Desk}
+use Rattle.office_commands.specs.Commands as commands
+use Rattle.office_commands.specs.declared.order.Order.TheVariants as order
+use Rattle.world_rows.specs.Told.{Booked}
+use Rattle.command_desk.proofs.desk.Desk.book.Goals as goal
+
+pub returns-in-Ok-clause-leads : goal.returns-in-Ok-clause-leads
+returns-in-Ok-clause-leads g c =
+    let old = c.args.self.now in
+    let new : Desk g.row.D.Denot = record { pair = c.book.new.self; job = old.job } in
+    order_leads g.D.Disk.state old new c.in-Ok.ensures.call refl order.Book tt (Booked c.in-Ok.booked.number (record { code = c.in-Ok.booked.code; detail = c.in-Ok.booked.detail })) c.in-Ok.ensures.does
+
+pub returns-in-Ok-clause-switches : goal.returns-in-Ok-clause-switches
+returns-in-Ok-clause-switches g c =
+    let old = c.args.self.now in
+    let new : Desk g.row.D.Denot = record { pair = c.book.new.self; job = old.job } in
+    booked_switches g.D.Disk.state old new c.in-Ok.ensures.beside c.in-Ok.booked c.in-Ok.ensures.causes
+
+pub returns-in-Err-clause-leads : goal.returns-in-Err-clause-leads
+returns-in-Err-clause-leads g c =
+    let old = c.args.self.now in
+    let new : Desk g.row.D.Denot = record { pair = c.book.new.self; job = old.job } in
+    order_refused g.D.Disk.state old new c.in-Err.ensures.call refl order.Book tt c.in-Err.fault c.refused.result c.refused.ensures c.in-Err.ensures.does
+
+pub returns-in-Err-clause-switches : goal.returns-in-Err-clause-switches
+returns-in-Err-clause-switches g c =
+    let old = c.args.self.now in
+    let new : Desk g.row.D.Denot = record { pair = c.book.new.self; job = old.job } in
+    refused_switched g.D.Disk.state old new (commands.Ordered order.Book) c.in-Err.fault c.refused.result c.refused.ensures
+    (book_refused_switches g.D.Disk.state old new c.in-Err.ensures.beside c.in-Err.fault c.in-Err.ensures.causes)
+
+pub returns-in-Ok-clause-advances : goal.returns-in-Ok-clause-advances
+returns-in-Ok-clause-advances g c =
+    let old = c.args.self.now in
+    let new : Desk g.row.D.Denot = record { pair = c.book.new.self; job = old.job } in
+    booked_advances g.D.Disk.state old new c.in-Ok.ensures.beside c.in-Ok.booked c.in-Ok.ensures.causes (search rules)

@@ -1,0 +1,3 @@
+pub mod MadeReply
+pub mod DeskSteps
+pub mod OpenedDesk
