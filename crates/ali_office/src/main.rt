@@ -61,7 +61,7 @@ fn disk<R: AllocGlobal + Files<File = File>>(
 ) -> Result<FileDisk, NoMemory> {
     let mut options = File::options();
     let dir = match words {
-        ["run", dir] => dir,
+        ["run", dir] | ["generate", dir, _, _] => dir,
         ["format", dir] => {
             options.create(true);
             dir

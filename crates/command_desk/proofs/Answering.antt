@@ -1,5 +1,5 @@
 -- Requests and reports as a desk answers them, from a table that is ready.
-use Rattle.std.proofs.Common.{◌≡◌, ◌⊎◌, inl, inr, ℕ, ◌≤◌, ◌<◌, true, List, [], ◌∷◌, length, refl, ap, sym, ◌∙◌, subst, arith, nat_lt, Option, Some, None, Result, Ok, Err, IsErr, Vec}
+use Rattle.std.proofs.Common.{◌≡◌, inl, inr, ℕ, ◌≤◌, ◌<◌, true, List, length, refl, ap, sym, ◌∙◌, subst, arith, nat_lt, Option, Some, None, Result, Ok, Err, IsErr}
 use Rattle.std.specs.FinMap.{get}
 use Rattle.std.proofs.lemmas.Bool.Decides.{nat_tests}
 use Rattle.ali_base.specs.Steps.{when}
@@ -7,13 +7,12 @@ use Rattle.ali_base.specs.declared.names.NodeName.{NodeName}
 use Rattle.ali_base.specs.declared.no_memory.NoMemory.{NoMemory}
 use Rattle.audit_reports.specs.ReportText.{report_text}
 use Rattle.audit_reports.specs.declared.report.Report.{Report}
-use Rattle.command_machine.specs.CommandRows.{refused, learning, ask_row, report_row, command_row}
+use Rattle.command_machine.specs.CommandRows.{refused, learning, ask_row}
 use Rattle.command_machine.specs.Courses.{First}
-use Rattle.command_machine.specs.Machine.{Machine, Moment, IsLawful, count_of, history_of, state_of}
+use Rattle.command_machine.specs.Machine.{Machine, Moment, count_of, history_of, state_of}
 use Rattle.command_machine.specs.Replies as replies
-use Rattle.command_machine.specs.Switches.{IsSwitched}
-use Rattle.command_desk.specs.DeskSteps.{Leads, Stays, IsGiven, RowDone, EventDone, IsPlainly, Readies, ReadySwitches, IsLearned, part_told, told_in}
-use Rattle.command_desk.specs.MadeReply.{ShowsMachine, counts_at, fault_reply, only, reply_of, switches_of, table_of}
+use Rattle.command_desk.specs.DeskSteps.{Leads, Stays, RowDone, EventDone, Readies, told_in}
+use Rattle.command_desk.specs.MadeReply.{ShowsMachine, fault_reply, only}
 use Rattle.command_desk.specs.OpenedDesk.{Switched}
 use Rattle.command_desk.specs.declared.desk.Desk.{Desk}
 use Rattle.command_desk.specs.declared.reply.Reply.{Reply}
@@ -31,7 +30,7 @@ use Rattle.pair_core.specs.declared.faults.PairFault.{PairFault}
 use Rattle.pair_world.specs.Refusals as refusals
 use Rattle.pair_world.proofs.RowTests.{lt_passes}
 use Rattle.retrieval.specs.AnswerForm.{form}
-use Rattle.world_rows.specs.Rows.{Row, Unless, Success, Gives}
+use Rattle.world_rows.specs.Rows.{Row, Unless, Success}
 use Rattle.world_rows.specs.Told as world
 
 -- a part that is left for want of memory tells nothing

@@ -1,5 +1,5 @@
 -- The pending entry is booked; an entry is written before; `NEXT` and `BATCH` begin, and `BATCH` goes on entry after entry.
-use Rattle.std.proofs.Common.{◌≡◌, ◌≢◌, ◌⊎◌, inl, inr, ℕ, ◌+◌, ◌<◌, ◌≤◌, Bool, true, false, not, List, [], ◌∷◌, ◌++◌, length, refl, ap, sym, ◌∙◌, subst, arith, Option, Some, None, Result, Ok, Err}
+use Rattle.std.proofs.Common.{◌≡◌, ◌≢◌, ◌⊎◌, inl, inr, ℕ, ◌<◌, ◌≤◌, Bool, true, false, not, List, [], ◌∷◌, ◌++◌, length, refl, ap, sym, ◌∙◌, subst, arith, Option, Some, None, Result, Ok, Err}
 use Rattle.std.specs.Option.{option_or}
 use Rattle.std.proofs.lemmas.List.{append-nil, append_assoc}
 use Rattle.ali_base.specs.Steps.{when}
@@ -9,13 +9,13 @@ use Rattle.ali_base.specs.declared.names.DiskName.TheVariants as disk
 use Rattle.ali_base.specs.declared.names.NodeName.{NodeName}
 use Rattle.ali_base.specs.declared.no_memory.NoMemory.{NoMemory}
 use Rattle.batch_desk.specs.declared.job.Job.{Job}
-use Rattle.command_machine.specs.CommandRows.{found_row, held, next_row, refused, write_row}
-use Rattle.command_machine.specs.Courses.{Event, First, Writes, Passes, Goes_alone, Books, row_of, then_comes, told_of, passed_or_booked, written_or_passed}
-use Rattle.command_machine.specs.Machine.{Machine, Moment, holder_of, count_of}
+use Rattle.command_machine.specs.CommandRows.{found_row, held, refused, write_row}
+use Rattle.command_machine.specs.Courses.{Event, First, Writes, Books, row_of, then_comes, told_of, passed_or_booked, written_or_passed}
+use Rattle.command_machine.specs.Machine.{Machine, Moment, holder_of}
 use Rattle.command_machine.specs.Replies as replies
 use Rattle.command_machine.specs.Steps.{begun}
 use Rattle.command_machine.specs.Switches.{IsSwitched}
-use Rattle.command_desk.specs.DeskSteps.{Leads, Stays, IsGiven, RowDone, EventDone, IsLeft, ComesTo, IsFound, IsPassedOn, BooksFrom, IsBatched, at_event, told_in, part_told}
+use Rattle.command_desk.specs.DeskSteps.{Leads, RowDone, EventDone, IsLeft, ComesTo, IsFound, IsPassedOn, BooksFrom, IsBatched, told_in, part_told}
 use Rattle.command_desk.specs.MadeReply.{Carries, ShowsMachine, fault_reply, holder_of as desk_holder, left_replies, replies_of, reply_of, switches_of, table_of}
 use Rattle.command_desk.specs.declared.desk.Desk.{Desk}
 use Rattle.command_desk.specs.declared.refusal.Refusal.{Refusal as DeskRefusal}
@@ -26,7 +26,6 @@ use Rattle.command_desk.specs.declared.reply.Reply.{Reply}
 use Rattle.command_desk.specs.declared.reply.Reply.TheVariants as reply
 use Rattle.command_desk.specs.declared.writing.Outcome.{Outcome}
 use Rattle.command_desk.specs.declared.writing.Outcome.TheVariants as outcome
-use Rattle.command_desk.specs.declared.writing.Turn.{Turn}
 use Rattle.command_desk.specs.declared.writing.Turn.TheVariants.{On, Over}
 use Rattle.command_desk.proofs.PassingOn.{leads_as, leads_on}
 use Rattle.command_desk.proofs.Switching.{down_of, row_case, row_refused}

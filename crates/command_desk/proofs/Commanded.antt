@@ -1,5 +1,5 @@
 -- Commands of one event: the event's reply is all that is told.
-use Rattle.std.proofs.Common.{◌≡◌, [], ◌∷◌, refl, sym, Some, None, Result, Ok, Err, ap, subst}
+use Rattle.std.proofs.Common.{◌≡◌, [], ◌∷◌, refl, sym, Some, None, Result, Ok, Err, subst}
 use Rattle.ali_base.specs.declared.no_memory.NoMemory.{NoMemory}
 use Rattle.command_desk.specs.DeskSteps.{Leads, EventDone, told_in}
 use Rattle.command_desk.specs.MadeReply.{Carries, only, reply_of, table_of}

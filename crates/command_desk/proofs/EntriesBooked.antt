@@ -1,5 +1,5 @@
 -- What booking the pending entry switches, after it was passed on.
-use Rattle.std.proofs.Common.{◌≡◌, ◌⊎◌, inl, inr, ℕ, Bool, arith, subst, sym, ◌∙◌, [], ◌∷◌, Option, Some, None, Result, Ok, Err}
+use Rattle.std.proofs.Common.{◌≡◌, ◌⊎◌, inl, inr, ℕ, Bool, arith, subst, ◌∙◌, [], Option, Some, None, Result, Ok, Err}
 use Rattle.std.specs.Result.{IsErr}
 use Rattle.ali_base.specs.declared.no_memory.NoMemory.{NoMemory}
 use Rattle.command_desk.specs.DeskSteps.{BookAdvances, BooksFrom, BooksSwitches, GoesOn, IsBatched, IsLeft, IsOver, Leads, at_event}
@@ -15,7 +15,7 @@ use Rattle.command_desk.specs.declared.writing.Outcome.TheVariants as outcome
 use Rattle.command_desk.specs.declared.writing.Turn.{Turn}
 use Rattle.command_desk.proofs.Underway.{booking_underway, front_of, goes_since, goes_still, over_after, quiet_goes_on, underway_on}
 use Rattle.command_machine.specs.Courses.{Event}
-use Rattle.command_machine.specs.Machine.{Machine, Moment}
+use Rattle.command_machine.specs.Machine.{Machine}
 use Rattle.command_machine.specs.Steps.{begun}
 use Rattle.crash_disk.specs.DiskState.{DiskState}
 use Rattle.office_commands.specs.Commands as commands

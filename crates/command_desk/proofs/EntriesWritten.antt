@@ -1,9 +1,8 @@
 -- The next entry of the job as a desk writes it, and how it finds that there is none.
-use Rattle.std.proofs.Common.{◌≡◌, ◌≢◌, ap₂, ◌⊎◌, inl, inr, ℕ, suc, ◌+◌, ◌≤◌, ◌<◌, Bool, true, false, not, nat_lt, nat_le, List, [], ◌∷◌, length, refl, ap, sym, ◌∙◌, subst, arith, Option, Some, None, option_map, Result, Ok, Err, IsErr}
+use Rattle.std.proofs.Common.{◌≡◌, ◌≢◌, ap₂, inl, inr, ℕ, suc, ◌+◌, ◌<◌, Bool, true, false, not, nat_lt, nat_le, List, [], ◌∷◌, length, refl, ap, sym, ◌∙◌, subst, arith, Option, Some, None, option_map, Result, Ok, Err, IsErr}
 use Rattle.std.proofs.lemmas.Bool.Decides.{nat_tests}
 use Rattle.ali_base.specs.Steps.{when}
 use Rattle.ali_base.specs.declared.duty.Duty.{Duty}
-use Rattle.ali_base.specs.declared.names.DiskName.{DiskName}
 use Rattle.ali_base.specs.declared.names.DiskName.TheVariants as disk
 use Rattle.ali_base.specs.declared.names.NodeName.{NodeName}
 use Rattle.ali_base.specs.declared.no_memory.NoMemory.{NoMemory}
@@ -14,23 +13,22 @@ use Rattle.batch_desk.specs.declared.job.Job.{Job}
 use Rattle.batch_desk.specs.declared.job.Job.TheVariants.{File, Edit}
 use Rattle.batch_desk.proofs.KeptStates.{IsKept}
 use Rattle.batch_desk.proofs.Steps.{ready, step}
-use Rattle.command_machine.specs.CommandRows.{refused, learning, held, not_next, finished, found_row, append_row, job_row, next_row, write_row}
-use Rattle.command_machine.specs.Courses.{First, row_of}
+use Rattle.command_machine.specs.CommandRows.{refused, learning, not_next, append_row, job_row, write_row}
+use Rattle.command_machine.specs.Courses.{First}
 use Rattle.command_machine.specs.Machine as machines
 use Rattle.command_machine.specs.Machine.{Machine, Moment, IsLawful, HasJob, office_bounds, state_of, with_world}
 use Rattle.command_machine.specs.Replies as replies
-use Rattle.command_machine.specs.Switches.{Switches, After, HasFailed, IsSwitched, with_node}
+use Rattle.command_machine.specs.Switches.{Switches, After, HasFailed, IsSwitched}
 use Rattle.command_machine.proofs.Lawful.{kept_of}
-use Rattle.command_desk.specs.DeskSteps.{Leads, LeadsOn, EventDone, FoundSwitches, CompleteAnswers, IfWritten, IsFound, IsGiven, IsNoneNext, IsPlain, IsPlainly, NextAnswers, PlainSwitches, Readies, ReadySwitches, RowDone, Stays, WriteAdvances, part_told, told_in}
+use Rattle.command_desk.specs.DeskSteps.{Leads, LeadsOn, EventDone, IsGiven, IsPlain, IsPlainly, NextAnswers, PlainSwitches, Readies, ReadySwitches, RowDone, Stays, WriteAdvances, told_in}
 use Rattle.command_desk.specs.MadeReply.{ShowsMachine, CanTell, counts_at, fault_reply, only, reply_of, switches_of, table_of}
 use Rattle.command_desk.specs.OpenedDesk.{Switched}
 use Rattle.command_desk.specs.declared.desk.Desk.{Desk}
-use Rattle.command_desk.specs.declared.refusal.Refusal.TheVariants as refusal
 use Rattle.command_desk.specs.declared.reply.Reply.{Reply}
 use Rattle.command_desk.specs.declared.reply.Reply.TheVariants as reply
 use Rattle.command_desk.proofs.Leading.{CallRow, RefusedSo, found, moment_in, never_fell, stays_in, told_fault}
 use Rattle.command_desk.proofs.Switching.{quiet_when, row_passed, row_refused}
-use Rattle.command_desk.proofs.Readying.{GivesIn, IsReady, command_done, command_kept, given_since, held_gives, held_owns, held_ready, held_tests, holder_shown, never_fall_twice, no_fall, none_all, passed_as, passed_row, passes_row, plain_switched, ready_are, ready_owns, ready_tests, refused_as, refused_row, rose_since, row_as, same_moment, stays_twice, still, switches_stay, tested, unlearned}
+use Rattle.command_desk.proofs.Readying.{GivesIn, IsReady, command_done, command_kept, given_since, held_owns, held_ready, holder_shown, no_fall, none_all, passed_as, passed_row, passes_row, plain_switched, ready_are, ready_owns, ready_tests, refused_as, refused_row, rose_since, row_as, same_moment, stays_twice, switches_stay, unlearned}
 use Rattle.crash_disk.specs.DiskState.{DiskState}
 use Rattle.office_commands.specs.Commands as commands
 use Rattle.office_entry.specs.declared.entry.Entry.{Entry}
@@ -38,7 +36,6 @@ use Rattle.office_entry.specs.declared.entry.Entry.TheVariants as entry
 use Rattle.office_state.specs.Due.{IsDue, due_of, opening_due, line_due, edit_due, due_line}
 use Rattle.office_state.specs.OfficeState.{State, office_limits}
 use Rattle.office_state.specs.declared.due_fault.DueFault.{DueFault}
-use Rattle.office_state.specs.declared.limits.Limits.{Limits}
 use Rattle.pair_core.specs.Pair as pairs
 use Rattle.pair_core.specs.Pair.{Does, IsCall, count_of, duty_of, is_node_up, is_up, len_of}
 use Rattle.pair_core.specs.PairAnswers.{KeepsOther, Unless as UnlessRefused, WriteCauses, WriteRest, fault_told}
@@ -52,17 +49,16 @@ use Rattle.pair_node.proofs.Quiet.{long_as}
 use Rattle.pair_world.specs.Changes.{journal_written, written, read_failed, write_failed}
 use Rattle.pair_world.specs.Refusals as refusals
 use Rattle.pair_world.specs.Refusals.{Refusal, disk_of}
-use Rattle.pair_world.specs.Step.{Bounds}
 use Rattle.pair_world.specs.World.{World, holder_journal, is_node, node_at}
 use Rattle.pair_world.proofs.Items.{none_some, some_is}
 use Rattle.pair_world.proofs.RowTests as row_tests
-use Rattle.pair_world.proofs.Terms.{same_node, node_same}
+use Rattle.pair_world.proofs.Terms.{same_node}
 use Rattle.sequence_once.specs.SerialStanding.{EditRecord, serial_standing, last_serial}
 use Rattle.sequence_once.specs.declared.standing.CycleFault.{CycleFault}
 use Rattle.sequence_once.specs.declared.standing.Standing.{Standing}
 use Rattle.sequence_once.specs.declared.standing.Standing.TheVariants.{New, Resume, Complete}
 use Rattle.world_rows.specs.Counts.{Counts, NeverFall}
-use Rattle.world_rows.specs.Rows.{Row, Unless, MayFail, Always, Success, Gives}
+use Rattle.world_rows.specs.Rows.{Row, Unless, MayFail, Success, Gives}
 use Rattle.world_rows.specs.Told as world
 use Rattle.world_rows.specs.Told.{Told}
 use Rattle.world_rows.specs.WorldRows as world_rows

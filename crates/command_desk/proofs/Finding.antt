@@ -1,5 +1,5 @@
 -- Whether the job is complete, as a desk finds it before each entry of `BATCH`.
-use Rattle.std.proofs.Common.{◌≡◌, ◌≢◌, ◌⊎◌, inl, inr, Bool, true, not, List, [], ◌∷◌, refl, ap, sym, ◌∙◌, subst, Option, Some, None, Result, Ok, Err, IfSome, IsErr}
+use Rattle.std.proofs.Common.{◌≡◌, ◌≢◌, inl, inr, Bool, true, not, refl, ap, sym, ◌∙◌, subst, Option, Some, None, Result, Ok, Err, IfSome, IsErr}
 use Rattle.ali_base.specs.Steps.{when}
 use Rattle.ali_base.specs.declared.names.DiskName.TheVariants as disk
 use Rattle.ali_base.specs.declared.names.NodeName.{NodeName}
@@ -11,9 +11,9 @@ use Rattle.command_machine.specs.Courses.{First, row_of}
 use Rattle.command_machine.specs.Machine as machines
 use Rattle.command_machine.specs.Machine.{Machine, Moment, state_of}
 use Rattle.command_machine.specs.Replies as replies
-use Rattle.command_machine.specs.Switches.{Switches, After}
+use Rattle.command_machine.specs.Switches.{Switches}
 use Rattle.command_desk.specs.DeskSteps.{Leads, CompleteAnswers, FoundSwitches, IsFound, IsGiven, IsPlainly, Readies, Stays, part_told}
-use Rattle.command_desk.specs.MadeReply.{ShowsMachine, CanTell, counts_at, reply_of, switches_of, table_of}
+use Rattle.command_desk.specs.MadeReply.{ShowsMachine, CanTell, reply_of, table_of}
 use Rattle.command_desk.specs.declared.desk.Desk.{Desk}
 use Rattle.command_desk.specs.declared.reply.Reply.{Reply}
 use Rattle.command_desk.proofs.NotReady.{stops_not_ready}
@@ -27,7 +27,6 @@ use Rattle.pair_core.specs.PairRefusals as rows
 use Rattle.pair_core.specs.declared.faults.PairFault.TheVariants as fault
 use Rattle.pair_core.proofs.PairRows.{all_none}
 use Rattle.pair_world.specs.Refusals.{disk_of}
-use Rattle.pair_world.proofs.Items.{none_some}
 use Rattle.sequence_once.specs.declared.standing.CycleFault.{CycleFault}
 use Rattle.sequence_once.specs.declared.standing.Standing.{Standing}
 use Rattle.sequence_once.specs.declared.standing.Standing.TheVariants as standing

@@ -1,5 +1,5 @@
 -- Files and edits as a desk reads them: what is read against a table that is ready becomes the job.
-use Rattle.std.proofs.Common.{◌≡◌, ◌⊎◌, inl, inr, ℕ, true, List, [], ◌∷◌, refl, ap, sym, ◌∙◌, subst, Option, Some, None, option_map, Result, Ok, Err, IsErr, IsOk, MatchResult}
+use Rattle.std.proofs.Common.{◌≡◌, inl, inr, ℕ, List, [], ◌∷◌, refl, ap, sym, ◌∙◌, subst, Option, Some, None, option_map, Result, Ok, Err, IsOk, MatchResult}
 use Rattle.ali_base.specs.declared.names.NodeName.{NodeName}
 use Rattle.ali_base.specs.declared.no_memory.NoMemory.{NoMemory}
 use Rattle.batch_desk.specs.FileJobs.{file_standing}
@@ -12,13 +12,13 @@ use Rattle.batch_desk.specs.declared.submit.SubmitFault.{SubmitFault}
 use Rattle.batch_desk.specs.declared.submit.SubmitFault.TheVariants.{Frame, Due}
 use Rattle.batch_frame.specs.FrameFault.{frame_fault}
 use Rattle.batch_frame.specs.declared.fault.FrameFault.{FrameFault}
-use Rattle.command_machine.specs.CommandRows.{held, learning, not_readable, read_row}
+use Rattle.command_machine.specs.CommandRows.{learning, not_readable, read_row}
 use Rattle.command_machine.specs.Courses.{First}
 use Rattle.command_machine.specs.Machine as machines
 use Rattle.command_machine.specs.Machine.{Machine, Moment, IsLawful, state_of}
 use Rattle.command_machine.specs.Replies as replies
 use Rattle.command_machine.specs.Switches.{Switches, IsSwitched, answered, first_off, found_up, needed_by, where_framed, with_node}
-use Rattle.command_desk.specs.DeskSteps.{Leads, EventDone, IsPlainly, Readies, ReadySwitches, RowDone, Stays}
+use Rattle.command_desk.specs.DeskSteps.{Leads, EventDone, IsPlainly, Readies, ReadySwitches, RowDone}
 use Rattle.command_desk.specs.MadeReply.{ShowsMachine, counts_at, refusal_reply, reply_of, switches_of, table_of}
 use Rattle.command_desk.specs.declared.desk.Desk.{Desk}
 use Rattle.command_desk.specs.declared.refusal.Refusal.{Refusal}
@@ -29,10 +29,9 @@ use Rattle.command_desk.proofs.Readying.{GivesIn, IsReady, command_done, held_fr
 use Rattle.crash_disk.specs.DiskState.{DiskState}
 use Rattle.office_commands.specs.Commands as commands
 use Rattle.office_commands.specs.Commands.{Command}
-use Rattle.office_state.specs.OfficeState.{State, OfficeState, office_limits}
+use Rattle.office_state.specs.OfficeState.{State, office_limits}
 use Rattle.pair_core.specs.Pair as pairs
 use Rattle.pair_core.specs.Pair.{duty_of}
-use Rattle.pair_core.specs.PairRefusals as rows
 use Rattle.pair_core.specs.declared.pair.Pair.{Pair}
 use Rattle.pair_world.proofs.Items.{none_some}
 use Rattle.sequence_once.specs.declared.standing.CycleFault.{CycleFault}

@@ -1,11 +1,11 @@
 -- What a pass switches over any disks, and what the loss of the other node does, after which the holder is alone.
-use Rattle.std.proofs.Common.{◌≡◌, ◌≢◌, ◌⊎◌, inl, inr, ℕ, suc, ◌+◌, ◌<◌, ◌≤◌, Bool, true, false, not, nat_lt, nat_le, List, [], ◌∷◌, ◌++◌, map, refl, ap, sym, ◌∙◌, subst, arith, Option, Some, None, Result, Ok, Err}
+use Rattle.std.proofs.Common.{◌≡◌, inl, inr, ℕ, suc, ◌+◌, ◌<◌, Bool, true, false, not, nat_lt, nat_le, List, [], ◌∷◌, ◌++◌, map, refl, ap, sym, ◌∙◌, subst, arith, Option, Some, None, Result, Ok, Err}
 use Rattle.std.proofs.lemmas.Bool.Decides.{nat_tests}
 use Rattle.std.proofs.lemmas.List.Elements.{All-cons, All-nil}
 use Rattle.ali_base.specs.Duties.{next_duty}
 use Rattle.ali_base.specs.Steps.{when}
 use Rattle.ali_base.specs.declared.duty.Duty.{Duty}
-use Rattle.ali_base.specs.declared.duty.Mode.TheVariants.{Both, Alone}
+use Rattle.ali_base.specs.declared.duty.Mode.TheVariants.{Alone}
 use Rattle.ali_base.specs.declared.names.DiskName.{DiskName}
 use Rattle.ali_base.specs.declared.names.DiskName.TheVariants as disk
 use Rattle.ali_base.specs.declared.names.NodeName.{NodeName}
@@ -13,34 +13,31 @@ use Rattle.ali_base.specs.declared.names.NodeName.TheVariants.{A, B}
 use Rattle.ali_base.specs.declared.no_memory.NoMemory.{NoMemory}
 use Rattle.command_machine.specs.Courses.{is_disk_of}
 use Rattle.command_machine.specs.Replies as replies
-use Rattle.command_machine.specs.Switches.{Switches, After, AfterAll, HasFailed, is_on, switched}
+use Rattle.command_machine.specs.Switches.{Switches, After, HasFailed, is_on, switched}
 use Rattle.command_desk.specs.DeskSteps.{IsPlainly, IsUnderway, GoesOn, IsOver, AloneSwitches, TurnSwitches, lost_by}
-use Rattle.command_desk.specs.MadeReply.{counts_at, fault_reply, holder_of, left_replies, receiver_of, replies_of, reply_of, switches_of, table_of}
+use Rattle.command_desk.specs.MadeReply.{counts_at, fault_reply, holder_of, left_replies, receiver_of, reply_of, switches_of, table_of}
 use Rattle.command_desk.specs.declared.desk.Desk.{Desk}
-use Rattle.command_desk.specs.declared.refusal.Refusal.TheVariants as refusal
 use Rattle.command_desk.specs.declared.reply.LeftBehind.{LeftBehind}
 use Rattle.command_desk.specs.declared.reply.Replied.{Replied}
 use Rattle.command_desk.specs.declared.reply.Reply.{Reply}
-use Rattle.command_desk.specs.declared.reply.Reply.TheVariants as reply
 use Rattle.command_desk.specs.declared.writing.Turn.{Turn}
 use Rattle.command_desk.specs.declared.writing.Turn.TheVariants.{On, Over}
 use Rattle.command_desk.proofs.Leading.{RefusedSo}
-use Rattle.command_desk.proofs.Switching.{first_quiet, quiet, quiet_when, row_case, unless_case}
-use Rattle.command_desk.proofs.Underway.{IsFront, all_failed_later, held_by, held_up, no_fall, plain_down, plain_up, quiet_goes_on, underway_alone, underway_on}
+use Rattle.command_desk.proofs.Switching.{first_quiet, quiet, quiet_when, unless_case}
+use Rattle.command_desk.proofs.Underway.{IsFront, held_by, held_up, quiet_goes_on, underway_alone, underway_on}
 use Rattle.crash_disk.specs.DiskState.{DiskState}
 use Rattle.office_commands.specs.Commands as commands
 use Rattle.pair_core.specs.Pair.{count_of, duty_of, is_node_up, is_up, len_of, sent_of}
-use Rattle.pair_core.specs.PairAnswers.{ChangeRest, KeepsCourse, KeepsNodes, PassCauses, PassKeeps, PassRest, may_pass, SameNode, SameSent, Unless}
+use Rattle.pair_core.specs.PairAnswers.{ChangeRest, KeepsNodes, PassCauses, PassKeeps, PassRest, may_pass, SameNode, Unless}
 use Rattle.pair_core.specs.PairRefusals as rows
 use Rattle.pair_core.specs.PairRefusals.{first_of}
 use Rattle.pair_core.specs.declared.faults.PairFault.{PairFault}
 use Rattle.pair_core.specs.declared.faults.PairFault.TheVariants as fault
 use Rattle.pair_core.specs.declared.pair.Pair.{Pair}
-use Rattle.pair_core.specs.declared.sent.Sent.{Sent}
 use Rattle.pair_node.specs.declared.message.Delivered.{Delivered}
-use Rattle.pair_world.specs.Refusals.{Down, Up, disk_of, is_alone}
+use Rattle.pair_world.specs.Refusals.{Down, Up, disk_of}
 use Rattle.pair_world.specs.World.{other}
-use Rattle.pair_world.proofs.Items.{none_some, some_is}
+use Rattle.pair_world.proofs.Items.{none_some}
 use Rattle.world_rows.specs.Counts.{NeverFall}
 use Rattle.world_rows.specs.Told as world
 

@@ -17,3 +17,4 @@ pub mod Leaving
 pub mod NotReady
 pub mod EntriesBooked
 pub mod Commanded
+pub mod ToldRefused

@@ -1,5 +1,5 @@
 -- What stops a table from being made ready is never told as `READY`.
-use Rattle.std.proofs.Common.{◌≡◌, ◌≢◌, inl, inr, List, refl, ap, sym, ◌∙◌, subst, Option, Some, None}
+use Rattle.std.proofs.Common.{◌≡◌, ◌≢◌, inl, inr, sym, ◌∙◌, Option, Some, None}
 use Rattle.ali_base.specs.declared.names.DiskName.{DiskName}
 use Rattle.ali_base.specs.declared.names.NodeName.{NodeName}
 use Rattle.command_machine.specs.CommandRows.{in_duty, learning, refused}

@@ -1,36 +1,27 @@
 -- The pending entry is passed on; where the other node is lost, the holder goes on alone; and it is booked: as events of `NEXT` and `BATCH`.
-use Rattle.std.proofs.Common.{◌≡◌, ◌≢◌, inl, inr, ℕ, suc, ◌+◌, ◌<◌, ◌≤◌, Bool, true, false, List, [], ◌∷◌, ◌++◌, length, refl, ap, sym, ◌∙◌, subst, arith, Option, Some, None, Result, Ok, Err, if◌then◌else◌}
-use Rattle.std.specs.Result.{IsErr}
-use Rattle.std.proofs.lemmas.List.{append-nil}
+use Rattle.std.proofs.Common.{◌≡◌, ◌≢◌, ℕ, suc, ◌+◌, Bool, true, false, [], ◌∷◌, ◌++◌, length, refl, ap, sym, ◌∙◌, subst, arith, Option, Some, None, Result, Ok, Err, if◌then◌else◌}
 use Rattle.ali_base.specs.declared.duty.Duty.{Duty}
-use Rattle.ali_base.specs.declared.duty.Mode.TheVariants.{Both, Alone}
+use Rattle.ali_base.specs.declared.duty.Mode.TheVariants.{Alone}
 use Rattle.ali_base.specs.declared.names.DiskName.{DiskName}
 use Rattle.ali_base.specs.declared.names.NodeName.{NodeName}
 use Rattle.ali_base.specs.declared.no_memory.NoMemory.{NoMemory}
-use Rattle.batch_desk.specs.declared.job.Job.{Job}
-use Rattle.command_machine.specs.CommandRows.{event_row, write_row}
-use Rattle.command_machine.specs.Courses.{Event, First, Writes, Passes, Goes_alone, Books, row_of, then_comes, told_of, is_disk_of, passed_or_booked, written_or_passed}
-use Rattle.command_machine.specs.Machine.{Machine, Moment, IsLawful, holder_of, mirror_of, count_of, office_bounds}
+use Rattle.command_machine.specs.CommandRows.{event_row}
+use Rattle.command_machine.specs.Courses.{Event, Passes, Goes_alone, Books, row_of, then_comes, told_of, is_disk_of, passed_or_booked}
+use Rattle.command_machine.specs.Machine.{Machine, Moment, mirror_of, office_bounds}
 use Rattle.command_machine.specs.Replies as replies
-use Rattle.command_desk.specs.DeskSteps.{Leads, Stays, RowDone, EventDone, IsLeft, ComesTo, IsPassedOn, IsAloneNow, BooksFrom, at_event, lost_by, told_in}
-use Rattle.command_desk.specs.MadeReply.{ShowsMachine, fault_reply, holder_of as desk_holder, left_replies, replies_of, reply_of, table_of}
+use Rattle.command_desk.specs.DeskSteps.{Leads, EventDone, ComesTo, IsPassedOn, IsAloneNow, lost_by, told_in}
+use Rattle.command_desk.specs.MadeReply.{ShowsMachine, fault_reply, holder_of as desk_holder, left_replies, reply_of, table_of}
 use Rattle.command_desk.specs.declared.desk.Desk.{Desk}
-use Rattle.command_desk.specs.declared.refusal.Refusal.{Refusal}
 use Rattle.command_desk.specs.declared.refusal.Refusal.TheVariants as refusal
 use Rattle.command_desk.specs.declared.reply.LeftBehind.{LeftBehind}
 use Rattle.command_desk.specs.declared.reply.Replied.{Replied}
 use Rattle.command_desk.specs.declared.reply.Reply.{Reply}
 use Rattle.command_desk.specs.declared.reply.Reply.TheVariants as reply
-use Rattle.command_desk.specs.declared.writing.Outcome.{Outcome}
-use Rattle.command_desk.specs.declared.writing.Outcome.TheVariants as outcome
 use Rattle.command_desk.specs.declared.writing.Turn.{Turn}
 use Rattle.command_desk.specs.declared.writing.Turn.TheVariants.{On, Over}
 use Rattle.command_desk.proofs.Leading.{CallRow, RefusedSo, event_leads, event_refused}
-use Rattle.command_desk.proofs.Running.{comes_on, left_on, comes_by, left_by, comes_already, comes_from, left_from, passes_alike, goes_alike, books_alike, writes_alike, comes_booking, comes_passing, comes_pending, comes_writing}
+use Rattle.command_desk.proofs.Running.{comes_on, left_on, comes_by, left_by, comes_already, comes_from, left_from, passes_alike, goes_alike, comes_booking, comes_passing}
 use Rattle.crash_disk.specs.DiskState.{DiskState}
-use Rattle.office_commands.specs.Commands as commands
-use Rattle.office_commands.specs.declared.order.Order.TheVariants as order
-use Rattle.office_entry.specs.declared.entry.Entry.{Entry}
 use Rattle.office_state.specs.OfficeState.{office_limits}
 use Rattle.pair_core.specs.Pair as pairs
 use Rattle.pair_core.specs.Pair.{Does, IsCall, bounds_of, counts_of, duty_of}
@@ -40,8 +31,7 @@ use Rattle.pair_core.specs.declared.faults.PairFault.{PairFault}
 use Rattle.pair_core.specs.declared.faults.PairFault.TheVariants as faults
 use Rattle.pair_node.specs.declared.message.Delivered.{Delivered}
 use Rattle.pair_node.specs.declared.message.Delivered.TheVariants as delivered
-use Rattle.pair_world.specs.Refusals as refusals
-use Rattle.pair_world.specs.World.{World, other}
+use Rattle.pair_world.specs.World.{other}
 use Rattle.world_rows.specs.Rows.{Gives}
 use Rattle.world_rows.specs.Told as world
 use Rattle.world_rows.specs.Told.{Told}

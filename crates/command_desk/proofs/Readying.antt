@@ -17,7 +17,7 @@ use Rattle.command_machine.specs.Replies as replies
 use Rattle.command_machine.specs.Steps.{GoesOn}
 use Rattle.command_machine.specs.Switches.{Switches, After, IsSwitched, answered, first_off, found_up, needed_by, switched, with_node}
 use Rattle.command_machine.proofs.Lawful.{AllowedIn, moves_keep}
-use Rattle.command_desk.specs.DeskSteps.{Leads, Stays, IsGiven, RowDone, EventDone, Readies, IsLearned, IsPlain, IsPlainly, ReadySwitches, at_event, part_told}
+use Rattle.command_desk.specs.DeskSteps.{Leads, Stays, IsGiven, RowDone, EventDone, Readies, IsLearned, IsPlainly, ReadySwitches, at_event, part_told}
 use Rattle.command_desk.specs.MadeReply.{ShowsMachine, counts_at, fault_reply, receiver_of, reply_of, switches_of, table_of}
 use Rattle.command_desk.specs.OpenedDesk.{Keeps}
 use Rattle.command_desk.specs.declared.desk.Desk.{Desk}
@@ -32,8 +32,7 @@ use Rattle.office_commands.specs.Commands.{Command, IsCommand}
 use Rattle.office_entry.specs.declared.entry.Entry.{Entry}
 use Rattle.office_state.specs.History as history
 use Rattle.office_state.specs.OfficeState.{State, office_limits}
-use Rattle.office_state.specs.declared.limits.Limits.{Limits}
-use Rattle.pair_core.specs.Pair.{Does, IsCall, Shows, counts_of, duty_of, is_node_up, is_up, node_of, count_of, len_of, table_of as table_at}
+use Rattle.pair_core.specs.Pair.{Does, IsCall, duty_of, is_node_up, is_up, node_of, count_of, len_of, table_of as table_at}
 use Rattle.pair_core.specs.PairAnswers.{KeepsCourse, KeepsOther, LearningCauses, ReadyCauses, ReadyRest, fault_told}
 use Rattle.pair_core.specs.PairRefusals as rows
 use Rattle.pair_core.specs.PairRefusals.{first_of}
@@ -48,7 +47,6 @@ use Rattle.pair_world.specs.Frames.{Frame, Begins, entries}
 use Rattle.pair_world.specs.Refusals as refusals
 use Rattle.pair_world.specs.Refusals.{Refusal, disk_of, is_alone}
 use Rattle.pair_world.specs.SoundWorld.{Invariant, Booked, Mirrored}
-use Rattle.pair_world.specs.Step.{Bounds}
 use Rattle.pair_world.specs.World.{World, is_node, node_at, other}
 use Rattle.pair_world.proofs.Items.{none_some, some_is}
 use Rattle.pair_world.proofs.RowTests.{in_duty_passed, in_duty_passes, passes}

@@ -1,28 +1,23 @@
 -- Courses of a desk: events one after the other; the pending entry is passed on, the other node is left behind, and it is booked.
-use Rattle.std.proofs.Common.{◌≡◌, ◌≢◌, ◌⊎◌, inl, inr, ℕ, zero, suc, ◌+◌, ◌<◌, ◌≤◌, Bool, true, false, not, List, [], ◌∷◌, ◌++◌, length, refl, ap, sym, ◌∙◌, subst, arith, nat_lt, Option, Some, None, Result, Ok, Err, if◌then◌else◌}
-use Rattle.std.specs.Result.{IsErr}
+use Rattle.std.proofs.Common.{◌≡◌, ℕ, zero, suc, ◌<◌, ◌≤◌, Bool, true, false, List, [], ◌++◌, length, refl, ap, sym, ◌∙◌, subst, arith, nat_lt, Option, Some, None, Result, Ok, Err, if◌then◌else◌}
 use Rattle.std.proofs.lemmas.Bool.Decides.{nat_tests}
 use Rattle.std.proofs.lemmas.List.{append-nil, append_assoc}
-use Rattle.ali_base.specs.declared.duty.Duty.{Duty}
 use Rattle.ali_base.specs.declared.duty.Mode.{Mode}
 use Rattle.ali_base.specs.declared.duty.Mode.TheVariants.{Both, Alone}
-use Rattle.ali_base.specs.declared.names.DiskName.{DiskName}
 use Rattle.ali_base.specs.declared.names.NodeName.{NodeName}
 use Rattle.ali_base.specs.declared.no_memory.NoMemory.{NoMemory}
-use Rattle.batch_desk.specs.declared.job.Job.{Job}
 use Rattle.command_machine.specs.CommandRows.{write_row}
-use Rattle.command_machine.specs.Courses.{Event, First, Writes, Passes, Goes_alone, Books, row_of, then_comes, told_of, is_disk_of, passed_or_booked, written_or_passed}
-use Rattle.command_machine.specs.Machine.{Machine, Moment, IsLawful, holder_of, mirror_of, count_of}
+use Rattle.command_machine.specs.Courses.{Event, First, Writes, Passes, Goes_alone, Books, row_of, then_comes, told_of, passed_or_booked, written_or_passed}
+use Rattle.command_machine.specs.Machine.{Machine, Moment, holder_of, count_of}
 use Rattle.command_machine.specs.Replies as replies
-use Rattle.command_machine.specs.Steps.{Course, Runs, GoesOn, Moves, begun, over}
+use Rattle.command_machine.specs.Steps.{Course, Runs, GoesOn, Moves, begun}
 use Rattle.command_desk.specs.DeskSteps.{Leads, Stays, IsGiven, RowDone, EventDone, IsLeft, ComesTo, at_event}
-use Rattle.command_desk.specs.MadeReply.{Carries, ShowsMachine, replies_of, reply_of, table_of}
+use Rattle.command_desk.specs.MadeReply.{Carries, replies_of, table_of}
 use Rattle.command_desk.specs.declared.desk.Desk.{Desk}
 use Rattle.command_desk.specs.declared.reply.Replied.{Replied}
 use Rattle.crash_disk.specs.DiskState.{DiskState}
 use Rattle.office_commands.specs.Commands as commands
 use Rattle.office_commands.specs.declared.order.Order.TheVariants as order
-use Rattle.pair_core.specs.Pair as pairs
 use Rattle.pair_world.specs.Refusals.{is_alone}
 use Rattle.pair_world.specs.World.{holder_journal}
 

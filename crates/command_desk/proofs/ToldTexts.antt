@@ -1,5 +1,5 @@
 -- The texts of what is told of a command.
-use Rattle.std.proofs.Common.{◌≡◌, ℕ, List, [], ◌∷◌, ◌++◌, refl, ap, sym, ◌∙◌, append-nil, append_assoc}
+use Rattle.std.proofs.Common.{◌≡◌, List, [], ◌∷◌, ◌++◌, refl, ap, sym, ◌∙◌, append-nil, append_assoc}
 use Rattle.ali_base.specs.declared.duty.Duty.{Duty}
 use Rattle.command_desk.specs.MadeReply.{fault_reply}
 use Rattle.command_machine.specs.Replies.{Reply, Told}

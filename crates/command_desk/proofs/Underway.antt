@@ -1,21 +1,15 @@
 -- What `NEXT` and `BATCH` tell and switch over any disks, part after part.
-use Rattle.std.proofs.Common.{◌≡◌, ◌≢◌, ◌⊎◌, inl, inr, ℕ, suc, ◌+◌, ◌<◌, ◌≤◌, ◌^◌, Bool, true, false, not, nat_lt, nat_le, List, [], ◌∷◌, ◌++◌, map, length, All, refl, ap, sym, ◌∙◌, subst, arith, Option, Some, None, Result, Ok, Err}
+use Rattle.std.proofs.Common.{◌≡◌, ◌≢◌, ◌⊎◌, inl, inr, Bool, true, false, not, List, [], ◌∷◌, ◌++◌, All, refl, ap, sym, ◌∙◌, subst, arith, Option, Some, None}
 use Rattle.std.specs.Option.{option_or}
 use Rattle.std.proofs.lemmas.List.Elements.{All-append, All-cons, All-nil, All-weaker}
 use Rattle.ali_base.specs.Steps.{when}
-use Rattle.ali_base.specs.declared.duty.Duty.{Duty}
-use Rattle.ali_base.specs.declared.duty.Mode.{Mode}
-use Rattle.ali_base.specs.declared.duty.Mode.TheVariants.{Both, Alone}
 use Rattle.ali_base.specs.declared.names.DiskName.{DiskName}
 use Rattle.ali_base.specs.declared.names.DiskName.TheVariants as disk
-use Rattle.ali_base.specs.declared.names.NodeName.{NodeName}
-use Rattle.ali_base.specs.declared.names.NodeName.TheVariants.{A, B}
 use Rattle.catch_up.proofs.Courses.{rose_later}
-use Rattle.command_machine.specs.Courses.{is_disk_of}
 use Rattle.command_machine.specs.Replies as replies
-use Rattle.command_machine.specs.Switches.{Switches, After, AfterAll, HasFailed, IsSwitched, first_off, found_up, is_on, needed_by, switched, with_node}
-use Rattle.command_desk.specs.DeskSteps.{IsPlain, IsPlainly, IsUnderway, GoesOn, IsOver, BooksMore, Advances, lost_by}
-use Rattle.command_desk.specs.MadeReply.{counts_at, fault_reply, holder_of, left_replies, receiver_of, replies_of, reply_of, switches_of, table_of}
+use Rattle.command_machine.specs.Switches.{Switches, After, AfterAll, HasFailed, IsSwitched, first_off, is_on, with_node}
+use Rattle.command_desk.specs.DeskSteps.{IsPlain, IsPlainly, IsUnderway, GoesOn, IsOver}
+use Rattle.command_desk.specs.MadeReply.{counts_at, holder_of, left_replies, replies_of, reply_of, switches_of, table_of}
 use Rattle.command_desk.specs.declared.desk.Desk.{Desk}
 use Rattle.command_desk.specs.declared.reply.LeftBehind.{LeftBehind}
 use Rattle.command_desk.specs.declared.reply.Replied.{Replied}
@@ -24,12 +18,10 @@ use Rattle.crash_disk.specs.DiskState.{DiskState}
 use Rattle.office_commands.specs.Commands as commands
 use Rattle.office_commands.specs.Commands.{Command}
 use Rattle.office_commands.specs.declared.order.Order.TheVariants as order
-use Rattle.pair_core.specs.Pair.{IsCall, count_of, duty_of, is_node_up, is_up, len_of, sent_of}
+use Rattle.pair_core.specs.Pair.{is_node_up, is_up}
 use Rattle.pair_core.specs.PairRefusals as rows
 use Rattle.pair_core.specs.PairRefusals.{first_of}
-use Rattle.pair_core.specs.declared.faults.PairFault.{PairFault}
 use Rattle.pair_core.specs.declared.faults.PairFault.TheVariants as fault
-use Rattle.pair_core.specs.declared.sent.Sent.{Sent}
 use Rattle.pair_world.specs.Refusals.{Down, Up, disk_of}
 use Rattle.pair_world.specs.World.{other}
 use Rattle.pair_world.proofs.Items.{none_some}

@@ -1,5 +1,5 @@
 -- What the parts of a desk do: each is an event of the machine, or a part of one, or some events.
-use Rattle.std.specs.Prelude.{◌≡◌, ◌≢◌, ◌⊎◌, ◌<◌, ◌≤◌, ℕ, ◌+◌, ◌^◌, List, [], ◌∷◌, ◌++◌, All, Bool, true, false, Option, Some, None, Result, Ok, Err}
+use Rattle.std.specs.Prelude.{◌≡◌, ◌≢◌, ◌⊎◌, ◌<◌, ℕ, ◌+◌, ◌^◌, List, [], ◌∷◌, All, Bool, true, false, Option, Some, None, Result, Ok, Err}
 use Rattle.ali_base.specs.declared.duty.Duty.{Duty}
 use Rattle.ali_base.specs.declared.duty.Mode.TheVariants.{Alone}
 use Rattle.ali_base.specs.declared.names.DiskName.{DiskName}
@@ -7,11 +7,11 @@ use Rattle.ali_base.specs.declared.names.NodeName.{NodeName}
 use Rattle.ali_base.specs.declared.no_memory.NoMemory.{NoMemory}
 use Rattle.batch_desk.specs.Jobs.{job_standing, next_of}
 use Rattle.batch_desk.specs.declared.job.Job.{Job}
-use Rattle.command_machine.specs.CommandRows.{in_duty, learning, write_row, not_next}
-use Rattle.command_machine.specs.Courses.{Event, First, Goes_alone, Books, row_of, then_comes, told_of, passed_or_booked, is_disk_of}
+use Rattle.command_machine.specs.CommandRows.{in_duty, learning, not_next}
+use Rattle.command_machine.specs.Courses.{Event, First, Goes_alone, Books, row_of, passed_or_booked, is_disk_of}
 use Rattle.command_machine.specs.Machine.{Machine, Moment, IsLawful, state_of}
 use Rattle.command_machine.specs.Replies as replies
-use Rattle.command_machine.specs.Steps.{Course, Runs, begun, over}
+use Rattle.command_machine.specs.Steps.{Course, Runs, begun}
 use Rattle.command_machine.specs.Switches.{After, AfterAll, HasFailed, is_on}
 use Rattle.command_desk.specs.MadeReply.{ShowsMachine, CanTell, counts_at, fault_reply, holder_of, left_replies, replies_of, reply_of, switches_of, table_of}
 use Rattle.command_desk.specs.declared.desk.Desk.{Desk}
@@ -36,7 +36,7 @@ use Rattle.pair_node.specs.NodeState.{learned_of}
 use Rattle.pair_world.specs.Refusals.{Down, Up, disk_of}
 use Rattle.pair_world.specs.World.{other}
 use Rattle.sequence_once.specs.declared.standing.Standing.TheVariants as standing
-use Rattle.world_rows.specs.Counts.{Counts, NeverFall}
+use Rattle.world_rows.specs.Counts.{NeverFall}
 use Rattle.world_rows.specs.Rows.{Row, Gives}
 use Rattle.world_rows.specs.Told as world
 

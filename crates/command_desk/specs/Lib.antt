@@ -1,3 +1,4 @@
 pub mod MadeReply
 pub mod DeskSteps
 pub mod OpenedDesk
+pub mod RefusedLines

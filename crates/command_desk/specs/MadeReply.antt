@@ -1,12 +1,12 @@
 -- A command of the program as a command, and what the program tells as replies; and what a desk does.
-use Rattle.std.specs.Prelude.{◌≡◌, ◌⊎◌, ℕ, List, [], ◌∷◌, ◌++◌, map, Bool, true, Option, Some, None, Result, Ok, Err}
+use Rattle.std.specs.Prelude.{◌≡◌, List, [], ◌∷◌, ◌++◌, map, Option, Some, None, Result, Ok, Err}
 use Rattle.ali_base.specs.declared.duty.Duty.{Duty}
 use Rattle.ali_base.specs.declared.names.NodeName.{NodeName}
 use Rattle.ali_base.specs.declared.names.NodeName.TheVariants as node
 use Rattle.ali_base.specs.declared.no_memory.NoMemory.{NoMemory}
 use Rattle.batch_desk.specs.Jobs.{job_standing}
 use Rattle.batch_desk.specs.declared.job.Job.{Job}
-use Rattle.command_machine.specs.Machine.{Machine, Moment, IsLawful, office_bounds}
+use Rattle.command_machine.specs.Machine.{Moment, IsLawful, office_bounds}
 use Rattle.command_machine.specs.Replies as replies
 use Rattle.command_machine.specs.Steps.{Steps, StepsInPart}
 use Rattle.command_machine.specs.Switches.{Switches}

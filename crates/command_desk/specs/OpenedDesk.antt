@@ -1,5 +1,5 @@
 -- Opening and closing a desk, and what its commands keep over any disks.
-use Rattle.std.specs.Prelude.{◌≡◌, List, None, Result, Ok, Err}
+use Rattle.std.specs.Prelude.{◌≡◌, None, Result, Ok, Err}
 use Rattle.ali_base.specs.declared.no_memory.NoMemory.{NoMemory}
 use Rattle.command_machine.specs.Switches.{IsSwitched}
 use Rattle.command_desk.specs.MadeReply.{counts_at, replies_of, switches_of, table_of}

@@ -18,7 +18,8 @@ use std::alloc::Global;
 impl<D: Disk + Drop> Desk<D> {
     ghost use Rattle.command_desk.specs.MadeReply.{table_of, CanTell, only};
     ghost use Rattle.command_desk.specs.OpenedDesk.{Keeps, Switched};
-    ghost use Rattle.command_desk.specs.DeskSteps.{Leads, EventDone, Readies, ReadySwitches, IsLearned, told_in, part_told};
+    ghost use Rattle.command_desk.specs.DeskSteps.{Leads, EventDone, Readies, ReadySwitches};
+    ghost use Rattle.command_desk.specs.DeskSteps.{IsLearned, told_in, part_told};
 
     // Makes the table of a node ready, or answers what stops it.
     pub(crate) fn ready(&mut self, n: NodeName) -> Result<Option<Reply>, NoMemory>
@@ -39,7 +40,8 @@ impl<D: Disk + Drop> Desk<D> {
     // Answers a request.
     pub(crate) fn answer(&mut self, ask: &Ask) -> Result<Reply, NoMemory>
         ensures leads { Leads D.state self.old self.new
-            (EventDone (First (commands.Ask ask.now.node ask.now.position ask.now.tn ask.now.since)) (told_in self.new result)) }
+            (EventDone (First (commands.Ask ask.now.node ask.now.position ask.now.tn ask.now.since))
+            (told_in self.new result)) }
         ensures switches { Switched D.state self.old self.new
             (commands.Ask ask.now.node ask.now.position ask.now.tn ask.now.since) (only result) }
         ensures can_tell { IfOk result (CanTell (table_of self.new) self.new.job) }

@@ -2,6 +2,7 @@
 #![tactic(auto)]
 
 mod answers;
+mod counting;
 mod desk;
 mod lines;
 mod not_read;

@@ -3,7 +3,9 @@ ghost use Rattle.std.specs.Prelude.{◌≡◌, ◌≤◌, ◌+◌, ◌∷◌, []
 ghost use Rattle.std.specs.Fmt.{decimal};
 ghost use Rattle.text_line.specs.WordLines.{line_of, with_word};
 ghost use Rattle.ali_base.specs.NodeNames.{node_text};
-ghost use Rattle.command_machine.specs.ReplyText.{disk_text, mode_text, number_or, told_line, number_line as number_text, numbers_line as numbers_text};
+ghost use Rattle.command_machine.specs.ReplyText.{disk_text, mode_text, number_or};
+ghost use Rattle.command_machine.specs.ReplyText.{told_line, number_line as number_text};
+ghost use Rattle.command_machine.specs.ReplyText.{numbers_line as numbers_text};
 ghost use Rattle.pair_core.specs.PairAnswers.{acked_told, delivered_told, report_told};
 ghost use Rattle.world_rows.specs.Told as tells;
 
@@ -115,7 +117,8 @@ pub(crate) fn words_numbers_line(first: &[u8], second: &[u8], m: u32, n: u32) ->
 
 /// `OUT OF DUTY node epoch holder`
 pub(crate) fn out_of_duty_line(node: NodeName, epoch: u32, holder: NodeName) -> Line
-    ensures { result ≡ line_of (codes "OUT" ∷ codes "OF" ∷ codes "DUTY" ∷ node_text node ∷ decimal epoch ∷ node_text holder ∷ []) }
+    ensures { result ≡ line_of
+        (codes "OUT" ∷ codes "OF" ∷ codes "DUTY" ∷ node_text node ∷ decimal epoch ∷ node_text holder ∷ []) }
 {
     let mut line = Line::new();
     line.add_word(b"OUT");

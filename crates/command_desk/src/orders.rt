@@ -67,7 +67,8 @@ impl<D: Disk + Drop> Desk<D> {
         requires { 1 ≤ number }
         ensures leads { Leads D.state self.old self.new
             (EventDone (First (commands.Ordered (AnyOrder.Ship node number))) (told_in self.new result)) }
-        ensures switches { Switched D.state self.old self.new (commands.Ordered (AnyOrder.Ship node number)) (only result) }
+        ensures switches { Switched D.state self.old self.new
+            (commands.Ordered (AnyOrder.Ship node number)) (only result) }
         ensures can_tell { IfOk result (CanTell (table_of self.new) self.new.job) }
         ensures keeps { Keeps D.state self.old self.new }
         ensures job { self.new.job ≡ self.old.job }
@@ -83,7 +84,8 @@ impl<D: Disk + Drop> Desk<D> {
         requires { 1 ≤ message }
         ensures leads { Leads D.state self.old self.new
             (EventDone (First (commands.Ordered (AnyOrder.Deliver message))) (told_in self.new result)) }
-        ensures switches { Switched D.state self.old self.new (commands.Ordered (AnyOrder.Deliver message)) (only result) }
+        ensures switches { Switched D.state self.old self.new
+            (commands.Ordered (AnyOrder.Deliver message)) (only result) }
         ensures can_tell { IfOk result (CanTell (table_of self.new) self.new.job) }
         ensures keeps { Keeps D.state self.old self.new }
         ensures job { self.new.job ≡ self.old.job }
@@ -98,7 +100,8 @@ impl<D: Disk + Drop> Desk<D> {
     fn take_duty(&mut self, node: NodeName) -> Result<Reply, NoMemory>
         ensures leads { Leads D.state self.old self.new
             (EventDone (First (commands.Ordered (AnyOrder.Take node))) (told_in self.new result)) }
-        ensures switches { Switched D.state self.old self.new (commands.Ordered (AnyOrder.Take node)) (only result) }
+        ensures switches { Switched D.state self.old self.new
+            (commands.Ordered (AnyOrder.Take node)) (only result) }
         ensures can_tell { IfOk result (CanTell (table_of self.new) self.new.job) }
         ensures keeps { Keeps D.state self.old self.new }
         ensures job { self.new.job ≡ self.old.job }
@@ -113,7 +116,8 @@ impl<D: Disk + Drop> Desk<D> {
     fn go_alone(&mut self) -> Result<Reply, NoMemory>
         ensures leads { Leads D.state self.old self.new
             (EventDone (First (commands.Ordered AnyOrder.Alone)) (told_in self.new result)) }
-        ensures switches { Switched D.state self.old self.new (commands.Ordered AnyOrder.Alone) (only result) }
+        ensures switches { Switched D.state self.old self.new
+            (commands.Ordered AnyOrder.Alone) (only result) }
         ensures can_tell { IfOk result (CanTell (table_of self.new) self.new.job) }
         ensures keeps { Keeps D.state self.old self.new }
         ensures job { self.new.job ≡ self.old.job }
@@ -143,7 +147,8 @@ impl<D: Disk + Drop> Desk<D> {
     fn stop(&mut self, node: NodeName) -> Result<Reply, NoMemory>
         ensures leads { Leads D.state self.old self.new
             (EventDone (First (commands.Ordered (AnyOrder.Stop node))) (told_in self.new result)) }
-        ensures switches { Switched D.state self.old self.new (commands.Ordered (AnyOrder.Stop node)) (only result) }
+        ensures switches { Switched D.state self.old self.new
+            (commands.Ordered (AnyOrder.Stop node)) (only result) }
         ensures can_tell { IfOk result (CanTell (table_of self.new) self.new.job) }
         ensures keeps { Keeps D.state self.old self.new }
         ensures job { self.new.job ≡ self.old.job }
@@ -158,7 +163,8 @@ impl<D: Disk + Drop> Desk<D> {
     fn start(&mut self, node: NodeName) -> Result<Reply, NoMemory>
         ensures leads { Leads D.state self.old self.new
             (EventDone (First (commands.Ordered (AnyOrder.Start node))) (told_in self.new result)) }
-        ensures switches { Switched D.state self.old self.new (commands.Ordered (AnyOrder.Start node)) (only result) }
+        ensures switches { Switched D.state self.old self.new
+            (commands.Ordered (AnyOrder.Start node)) (only result) }
         ensures can_tell { IfOk result (CanTell (table_of self.new) self.new.job) }
         ensures keeps { Keeps D.state self.old self.new }
         ensures job { self.new.job ≡ self.old.job }
@@ -177,7 +183,8 @@ impl<D: Disk + Drop> Desk<D> {
     fn start_duty(&mut self) -> Result<Reply, NoMemory>
         ensures leads { Leads D.state self.old self.new
             (EventDone (First (commands.Ordered AnyOrder.StartDuty)) (told_in self.new result)) }
-        ensures switches { Switched D.state self.old self.new (commands.Ordered AnyOrder.StartDuty) (only result) }
+        ensures switches { Switched D.state self.old self.new
+            (commands.Ordered AnyOrder.StartDuty) (only result) }
         ensures can_tell { IfOk result (CanTell (table_of self.new) self.new.job) }
         ensures keeps { Keeps D.state self.old self.new }
         ensures job { self.new.job ≡ self.old.job }
@@ -192,7 +199,8 @@ impl<D: Disk + Drop> Desk<D> {
     fn status(&mut self) -> Result<Reply, NoMemory>
         ensures leads { Leads D.state self.old self.new
             (EventDone (First (commands.Ordered AnyOrder.Status)) (told_in self.new result)) }
-        ensures switches { Switched D.state self.old self.new (commands.Ordered AnyOrder.Status) (only result) }
+        ensures switches { Switched D.state self.old self.new
+            (commands.Ordered AnyOrder.Status) (only result) }
         ensures can_tell { IfOk result (CanTell (table_of self.new) self.new.job) }
         ensures keeps { Keeps D.state self.old self.new }
         ensures job { self.new.job ≡ self.old.job }

@@ -41,7 +41,8 @@ impl<D: Disk + Drop> Desk<D> {
 
     // Reads a file, which becomes the job where it is not refused.
     pub(crate) fn read(&mut self, alloc: Global, content: &[u8]) -> Result<Reply, NoMemory>
-        ensures leads { Leads D.state self.old self.new (EventDone (First (commands.File content.now)) (told_in self.new result)) }
+        ensures leads { Leads D.state self.old self.new
+            (EventDone (First (commands.File content.now)) (told_in self.new result)) }
         ensures switches { Switched D.state self.old self.new (commands.File content.now) (only result) }
         ensures can_tell { IfOk result (CanTell (table_of self.new) self.new.job) }
         ensures keeps { Keeps D.state self.old self.new }
@@ -68,7 +69,8 @@ impl<D: Disk + Drop> Desk<D> {
         requires { IsEditor editor × IsSerial serial × IsEdit edit }
         ensures leads { Leads D.state self.old self.new
             (EventDone (First (commands.Edit editor serial edit)) (told_in self.new result)) }
-        ensures switches { Switched D.state self.old self.new (commands.Edit editor serial edit) (only result) }
+        ensures switches { Switched D.state self.old self.new
+            (commands.Edit editor serial edit) (only result) }
         ensures can_tell { IfOk result (CanTell (table_of self.new) self.new.job) }
         ensures keeps { Keeps D.state self.old self.new }
     {

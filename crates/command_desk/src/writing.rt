@@ -41,11 +41,17 @@ pub(crate) enum Outcome {
 impl<D: Disk + Drop> Desk<D> {
     ghost use Rattle.command_desk.specs.MadeReply.{table_of, CanTell, Carries, only};
     ghost use Rattle.command_desk.specs.OpenedDesk.{Keeps, Switched};
-    ghost use Rattle.command_desk.specs.DeskSteps.{Leads, LeadsOn, EventDone, RowDone, told_in, part_told, NextAnswers, CompleteAnswers, IsFound, IsPassedOn, BooksFrom, IsBatched, PlainSwitches, FoundSwitches, TurnSwitches, BooksSwitches, TurnTells, OutcomeTells, WriteAdvances, BatchAdvances, IsAloneNow, AloneSwitches};
+    ghost use Rattle.command_desk.specs.DeskSteps.{Leads, LeadsOn, EventDone, RowDone, told_in, part_told};
+    ghost use Rattle.command_desk.specs.DeskSteps.{NextAnswers, CompleteAnswers, IsFound, IsPassedOn};
+    ghost use Rattle.command_desk.specs.DeskSteps.{BooksFrom};
+    ghost use Rattle.command_desk.specs.DeskSteps.{IsBatched, PlainSwitches, FoundSwitches, TurnSwitches};
+    ghost use Rattle.command_desk.specs.DeskSteps.{BooksSwitches, TurnTells, OutcomeTells, WriteAdvances};
+    ghost use Rattle.command_desk.specs.DeskSteps.{BatchAdvances, IsAloneNow, AloneSwitches};
 
     // The node, which has to be the holder, writes the next entry of the job.
     pub(crate) fn write_command(&mut self, n: NodeName) -> Result<Reply, NoMemory>
-        ensures leads { Leads D.state self.old self.new (EventDone (First (commands.Write n)) (told_in self.new result)) }
+        ensures leads { Leads D.state self.old self.new
+            (EventDone (First (commands.Write n)) (told_in self.new result)) }
         ensures switches { Switched D.state self.old self.new (commands.Write n) (only result) }
         ensures can_tell { IfOk result (CanTell (table_of self.new) self.new.job) }
         ensures keeps { Keeps D.state self.old self.new }
@@ -59,7 +65,8 @@ impl<D: Disk + Drop> Desk<D> {
     // The holder writes the next entry of the job; or the reply, where there is none or it is not written.
     fn write_next(&mut self, n: NodeName) -> Result<Reply, NoMemory>
         requires { rows.write_refusal self.old.pair n ≡ None }
-        ensures leads { Leads D.state self.old self.new (RowDone (λ m. write_row m n) (told_in self.new result)) }
+        ensures leads { Leads D.state self.old self.new
+            (RowDone (λ m. write_row m n) (told_in self.new result)) }
         ensures switches { PlainSwitches D.state self.old self.new result }
         ensures can_tell { IfOk result (CanTell (table_of self.new) self.new.job) }
         ensures keeps { Keeps D.state self.old self.new }
@@ -95,7 +102,8 @@ impl<D: Disk + Drop> Desk<D> {
     // Writes an entry, or answers what stops it.
     fn write(&mut self, n: NodeName, entry: &Entry) -> Result<Reply, NoMemory>
         requires { rows.write_refusal self.old.pair n ≡ None }
-        ensures leads { LeadsOn D.state self.old self.new entry.now (RowDone (λ m. write_row m n) (told_in self.new result)) }
+        ensures leads { LeadsOn D.state self.old self.new entry.now
+            (RowDone (λ m. write_row m n) (told_in self.new result)) }
         ensures switches { PlainSwitches D.state self.old self.new result }
         ensures can_tell { IfOk result (CanTell (table_of self.new) self.new.job) }
         ensures keeps { Keeps D.state self.old self.new }

@@ -151,7 +151,7 @@ module _ {D : Type 0} (state : D → DiskState) (a b duty x y z : D) (left' held
   none_failed = NoneRose (counts_of before) (counts_of now)
 
   -- no disk failed in the opening
-  no_fault : (d : DiskName) → none_failed → OpenCause state (handed a b duty) (handed x y z) MOST_FRAMES LAST_EPOCH (ends.OpenFault d) → ⊥
+  pub no_fault : (d : DiskName) → none_failed → OpenCause state (handed a b duty) (handed x y z) MOST_FRAMES LAST_EPOCH (ends.OpenFault d) → ⊥
   no_fault disks.A none rose = none disks.A rose
   no_fault disks.B none rose = none disks.B rose
   no_fault disks.Duty none rose = none disks.Duty rose

@@ -67,7 +67,7 @@ module _ (before from now : Disks) (later : Later before from) where
   idle h honest = let m = h (later.honest honest) in (m.0, later.first m.0 m.1, m.2)
 
 -- what changes no byte of the later disks changes none of those from before
-abbrev StaysSince : Disks → Disks → Disks → Type 0
+abbrev pub StaysSince : Disks → Disks → Disks → Type 0
 StaysSince before from now = (d : DiskName) → Stays (disk_in from d) (disk_in now d) → Stays (disk_in before d) (disk_in now d)
 
 module _ (before from now : Disks) (later : Later before from) (left left' old new : Option (List ℕ)) where

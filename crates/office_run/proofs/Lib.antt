@@ -3,8 +3,12 @@ pub mod CommandTexts
 pub mod Completeness
 pub mod Ends
 pub mod FileTexts
+pub mod Filling
+pub mod GeneratedEnds
+pub mod GeneratedWords
 pub mod LineTexts
 pub mod OpenedJournals
+pub mod ScriptParts
 pub mod Scripts
 pub mod Serving
 pub mod Switched

@@ -15,6 +15,7 @@ use Rattle.command_machine.specs.ReplyText.{text_of}
 use Rattle.command_machine.specs.Steps.{Replies}
 use Rattle.crash_disk.specs.DiskState.{DiskState}
 use Rattle.office_commands.specs.Commands.{Command}
+use Rattle.office_run.specs.Carrying.{Carried}
 use Rattle.office_run.specs.Disks.{IsBacked, IsLast}
 use Rattle.office_run.specs.Exit.{IsIdle}
 use Rattle.office_run.specs.Replied.{AreSwitchedSince, AreMachines, RepliedTo, RepliedToAll, StoppedAt, RepliedInPart, RepliedToSome, all_of}
@@ -24,7 +25,7 @@ use Rattle.office_run.specs.Serving.{disks_at, IsOpenDesk}
 use Rattle.office_run.proofs.Backed.{kept_from_backed}
 use Rattle.office_run.proofs.CommandTexts.{begins-command_at}
 use Rattle.office_run.proofs.Scripts.{Reads-snoc, no_first}
-use Rattle.office_run.proofs.Switched.{SwitchedTo, switched_more, switched_since, never-trans, replies_more, all_of-more, text_of-more}
+use Rattle.office_run.proofs.Switched.{switched_more, switched_since, never-trans, replies_more, all_of-more, text_of-more}
 
 module _ {D : Type 0} (state : D → DiskState) where
   -- the world that a desk shows backs its disks
@@ -50,27 +51,20 @@ module _ {D : Type 0} (state : D → DiskState) where
   pub keeps-refl : (desk : Desk D) → Keeps state desk desk
   keeps-refl desk = record { bounds = refl; counts = λ disk. omega arith; booked = omega arith }
 
-  keeps-trans : (from mid now : Desk D) → Keeps state from mid → Keeps state mid now → Keeps state from now
+  pub keeps-trans : (from mid now : Desk D) → Keeps state from mid → Keeps state mid now → Keeps state from now
   keeps-trans from mid now first second = record {
     bounds = second.bounds ∙ first.bounds;
     counts = never-trans (counts_at state from) (counts_at state mid) (counts_at state now) first.counts second.counts;
     booked = omega (arith, first.booked, second.booked);
   }
 
-  -- the commands are carried out, and this is told of each
-  pub record Carried (from desk : Desk D) (commands : List Command) (told : List (List Reply)) : Type 0 where
-    pub switched : SwitchedTo (counts_at state from) (switches_of from) commands told (counts_at state desk) (switches_of desk)
-    pub machine : (m : Moment) → ShowsMachine state from m → IsLawful m.machine
-        → (last : Moment) × ShowsMachine state desk last × IsLawful last.machine × Replies m commands (all_of told) last
-    pub kept : Keeps state from desk
-
   -- all that this desk tells of a command
   abbrev told_at : Desk D → Replied → List Reply
   told_at desk made = replies_of (table_of desk) desk.job made
 
   pub carried_more : (from desk now : Desk D) (commands : List Command) (told : List (List Reply)) (next : Command) (made : Replied)
-      → Carried from desk commands told → Carries state desk now next (Ok made) → Switched state desk now next (Ok made) → Keeps state desk now
-      → Carried from now (commands ++ next ∷ []) (told ++ told_at now made ∷ [])
+      → Carried state from desk commands told → Carries state desk now next (Ok made) → Switched state desk now next (Ok made) → Keeps state desk now
+      → Carried state from now (commands ++ next ∷ []) (told ++ told_at now made ∷ [])
   carried_more from desk now commands told next made so_far carries switches keeps =
       let last = told_at now made in
       record {
@@ -84,7 +78,7 @@ module _ {D : Type 0} (state : D → DiskState) where
       }
 
   -- what that is of the disks
-  since : (from desk : Desk D) (commands : List Command) (told : List (List Reply)) (now : Desk D) → IsOpenDesk state from → Carried from desk commands told → Keeps state desk now
+  since : (from desk : Desk D) (commands : List Command) (told : List (List Reply)) (now : Desk D) → IsOpenDesk state from → Carried state from desk commands told → Keeps state desk now
       → AreSwitchedSince (disks_at state from) (disks_at state now) commands told
   since from desk commands told now opened so_far keeps = record {
     first = counts_at state from;
@@ -97,7 +91,7 @@ module _ {D : Type 0} (state : D → DiskState) where
     switched = switched_since (counts_at state from) (switches_of from) commands told (counts_at state desk) (switches_of desk) (counts_at state now) so_far.switched keeps.counts;
   }
 
-  machines : (from desk : Desk D) (commands : List Command) (told : List (List Reply)) → IsOpenDesk state from → Carried from desk commands told
+  machines : (from desk : Desk D) (commands : List Command) (told : List (List Reply)) → IsOpenDesk state from → Carried state from desk commands told
       → AreMachines (disks_at state from) (disks_at state desk) commands told
   machines from desk commands told opened so_far honest =
       let first = opened.first honest in
@@ -110,7 +104,7 @@ module _ {D : Type 0} (state : D → DiskState) where
     pub told : List (List Reply)
     pub reads : Reads script commands rest
     pub put : Appends old new (text_of (all_of told))
-    pub carried : Carried from desk commands told
+    pub carried : Carried state from desk commands told
     pub count_is : count ≡ length commands
 
   pub served_none : (script : List ℕ) (held : Option (List ℕ)) (desk : Desk D) → Served script held held script desk desk 0

@@ -7,19 +7,12 @@ use Rattle.command_machine.specs.Replies.{Reply}
 use Rattle.command_machine.specs.ReplyText.{reply_text, text_of}
 use Rattle.command_machine.specs.Steps.{Steps, Replies}
 use Rattle.command_machine.specs.Switches.{Switches, IsSwitched}
+use Rattle.office_run.specs.Carrying.{SwitchedTo}
 use Rattle.office_run.specs.Replied.{AreSwitched, all_of}
 use Rattle.world_rows.specs.Counts.{Counts, NeverFall}
 
 pub never-trans : (a b c : Counts) → NeverFall a b → NeverFall b c → NeverFall a c
 never-trans a b c first second = λ disk. omega (arith, first disk, second disk)
-
--- what is told is such as the nodes and the register allow, and these are the counts and the switches after the last of it
-abbrev pub SwitchedTo : Counts → Switches → List Command → List (List Reply) → Counts → Switches → Type 0
-SwitchedTo before s [] told now t = (told ≡ []) × (now ≡ before) × (t ≡ s)
-SwitchedTo before s (command ∷ commands) told now t =
-    (first : List Reply) × (rest : List (List Reply)) × (next : Counts) × (between : Switches)
-    × (told ≡ first ∷ rest) × NeverFall before next × IsSwitched before next s command first between
-    × SwitchedTo next between commands rest now t
 
 pub switched_more : (before : Counts) (s : Switches) (commands : List Command) (told : List (List Reply)) (now : Counts) (t : Switches) (command : Command) (last : List Reply) (later : Counts) (u : Switches)
     → SwitchedTo before s commands told now t → NeverFall now later → IsSwitched now later t command last u
@@ -48,7 +41,7 @@ pub all_of-more : (told : List (List Reply)) (last : List Reply) → all_of (tol
 all_of-more [] last = append-nil last
 all_of-more (first ∷ told) last = ap (λ z. first ++ z) (all_of-more told last) ∙ sym (append_assoc first (all_of told) last)
 
-text_of-append : (told more : List Reply) → text_of (told ++ more) ≡ text_of told ++ text_of more
+pub text_of-append : (told more : List Reply) → text_of (told ++ more) ≡ text_of told ++ text_of more
 text_of-append [] more = refl
 text_of-append (first ∷ told) more = ap (λ z. reply_text first ++ z) (text_of-append told more) ∙ sym (append_assoc (reply_text first) (text_of told) (text_of more))
 

@@ -1,5 +1,5 @@
 -- How a run ends: what was taken of the source and put into the sink, what was done, and what the disks then hold, by the status.
-use Rattle.std.specs.Prelude.{◌≡◌, ◌⊎◌, ℕ, ◌≤◌, List, length, Option, Some}
+use Rattle.std.specs.Prelude.{◌≡◌, ◌⊎◌, ℕ, ◌≤◌, List, length, true, Option, Some}
 use Rattle.std.specs.Io.KnownBytes.{Keeps}
 use Rattle.ali_base.specs.declared.names.DiskName.{DiskName}
 use Rattle.ali_base.specs.declared.names.DiskName.TheVariants as disk
@@ -18,6 +18,7 @@ use Rattle.office_run.specs.Disks.{Disks, disk_in, IsHonest, IsFirst, IsLast}
 use Rattle.office_run.specs.Replied.{RepliedToAll, StoppedAt, RepliedInPart, RepliedToSome}
 use Rattle.office_run.specs.ScriptGrammar.{IsScript}
 use Rattle.office_run.specs.ScriptInput.{TookAll, TookPart, TookSome, TookTooMany}
+use Rattle.office_words.specs.Words.{is_generate}
 use Rattle.office_run.specs.declared.input.TheConstants.{SCRIPT_LIMIT}
 use Rattle.office_run.specs.declared.status.Status.{Status}
 use Rattle.office_run.specs.declared.status.Status.TheVariants.{Done, Usage, SourceFault, SinkFault, Script, TooLong, OpenFault, Foreign, Damaged, NotEmpty, Short, NoMemory}
@@ -94,6 +95,10 @@ abbrev pub Completes : Option (List ℕ) → Disks → (source_failed sink_faile
 Completes left disks source_failed sink_failed no_disk_failed status =
     (script : List ℕ) (commands : List Command) → left ≡ Some script → IsScript script commands → length script ≤ SCRIPT_LIMIT
     → IsHonest disks → ¬ source_failed → ¬ sink_failed → no_disk_failed → IsDoneOrNoMemory status
+
+-- words that are none of the forms: no status but that of wrong words; where three words follow `generate`, memory may run out before they are read
+abbrev pub IsNoForm : List (List ℕ) → Status → Type 0
+IsNoForm words status = (status ≡ Usage) ⊎ ((status ≡ NoMemory) × (is_generate words ≡ true))
 
 -- the number that a program ends with
 abbrev pub status_number : Status → ℕ

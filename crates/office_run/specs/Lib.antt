@@ -1,10 +1,11 @@
 pub mod ScriptGrammar
 pub mod ScriptReading
-pub mod Words
 pub mod ScriptInput
 pub mod InputFaults
 pub mod Disks
 pub mod Replied
 pub mod Exit
+pub mod Generated
+pub mod Carrying
 pub mod Serving
 pub mod Formatted

@@ -3,11 +3,13 @@
 
 mod command;
 mod formatting;
+mod generate;
 mod input;
 mod laws;
 mod run;
 mod status;
-mod words;
+mod tally;
+mod text;
 
 pub use laws::{
     commands_are_read_as_spelled, formatted_disks_are_honest, limit_of_scripts,
@@ -20,5 +22,7 @@ pub use status::Status;
 mod crash_tests;
 #[cfg(test)]
 mod fault_tests;
+#[cfg(test)]
+mod generate_tests;
 #[cfg(test)]
 mod tests;

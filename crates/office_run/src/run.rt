@@ -1,26 +1,30 @@
 //! The call that does all that the program does.
-ghost use Rattle.std.specs.Prelude.{◌≡◌, ◌↔◌, ◌≤◌, true, false, length};
+ghost use Rattle.std.specs.Prelude.{◌≡◌, ◌≤◌, ℕ, length, Some, None};
 ghost use Rattle.ali_base.specs.Faults.{Rose};
 ghost use Rattle.command_desk.specs.OpenedDesk.{Keeps as KeepsDesk};
 ghost use Rattle.office_run.specs.Disks.{disks_of, counts_of};
-ghost use Rattle.office_run.specs.Exit.{Exit, DiskCause, Completes};
+ghost use Rattle.office_run.specs.Exit.{Exit, DiskCause, Completes, IsNoForm};
+ghost use Rattle.generated_script.specs.GeneratedScript.{generated};
 ghost use Rattle.office_run.specs.Formatted.{Formats};
+ghost use Rattle.office_run.specs.Generated.{Generates, GeneratesFor, GeneratesAll};
 ghost use Rattle.office_run.specs.Serving.{IsOpenDesk, IsServed, Serves, disks_at, end_status};
-ghost use Rattle.office_run.specs.Words.{is_run, is_format, texts};
+ghost use Rattle.office_words.specs.Words.{form_of, texts};
+ghost use Rattle.office_words.specs.declared.form.Form.TheVariants as Form;
 ghost use Rattle.office_run.specs.declared.input.TheConstants.{SCRIPT_LIMIT};
 ghost use Rattle.pair_core.specs.Pair.{handed};
 ghost use Rattle.world_rows.specs.Counts.{NoneRose};
 
 use crate::command::first_command;
 use crate::formatting::format;
+use crate::generate::generate;
 use crate::input::{InputFault, read_all};
 use crate::status::Status;
-use crate::words::{is_format, is_run};
 use ali_base::{NoMemory, Sink, Source};
 use command_desk::Desk;
 use crash_disk::Disk;
 use duty_register::{duties_are_counted, duties_are_known_from_the_image};
 use node_journal::frames_are_known_from_the_image;
+use office_words::{Form, read_words};
 use pair_core::OpenEnd;
 use std::alloc::Global;
 
@@ -28,7 +32,8 @@ use std::alloc::Global;
 ///
 /// `run DIR` opens the register, then node a, then node b, reads the source to its end, and then answers
 /// the commands of the script one after the other, each reply put whole before the next command.
-/// `format DIR` formats the three disks, in the same order. DIR is where `main` finds the disks.
+/// `format DIR` formats the three disks, in the same order. `generate DIR SEED COUNT` opens the disks as
+/// `run` does, and runs the generated script on them. DIR is where `main` finds the disks.
 pub fn office<S: Source, K: Sink, D: Disk + Drop>(
     alloc: Global,
     words: &[&str],
@@ -39,15 +44,15 @@ pub fn office<S: Source, K: Sink, D: Disk + Drop>(
     duty: D,
 ) -> (Status, D, D, D)
     // The words decide whether anything is called.
-    ensures usage { (result.0 ≡ Status.Usage)
-        ↔ ((is_run (texts words.now) ≡ false) × (is_format (texts words.now) ≡ false)) }
-    ensures untouched { result.0 ≡ Status.Usage
+    ensures usage { result.0 ≡ Status.Usage → form_of (texts words.now) ≡ None }
+    ensures only { form_of (texts words.now) ≡ None → IsNoForm (texts words.now) result.0 }
+    ensures untouched { form_of (texts words.now) ≡ None
         → (source.new ≡ source.old) × (sink.new ≡ sink.old)
         × (result.1 ≡ a) × (result.2 ≡ b) × (result.3 ≡ duty) }
 
     // Of a run, what was taken, put and done is what the status says: over honest disks the replies
     // are those of one machine over one booked history, and whatever a crash may leave keeps it.
-    ensures exit { is_run (texts words.now) ≡ true
+    ensures exit { form_of (texts words.now) ≡ Some Form.Run
         → Exit (disks_of D.state a b duty) (disks_of D.state result.1 result.2 result.3)
         (S.left source.old) (S.left source.new) (K.contents sink.old) (K.contents sink.new) result.0 }
 
@@ -56,11 +61,11 @@ pub fn office<S: Source, K: Sink, D: Disk + Drop>(
     ensures source_fault { result.0 ≡ Status.SourceFault
         → Rose (S.faults source.old) (S.faults source.new) }
     ensures sink_fault { result.0 ≡ Status.SinkFault → Rose (K.faults sink.old) (K.faults sink.new) }
-    ensures disk_cause { is_run (texts words.now) ≡ true
+    ensures disk_cause { form_of (texts words.now) ≡ Some Form.Run
         → DiskCause D.state (handed a b duty) (handed result.1 result.2 result.3) result.0 }
 
     // Where nothing fails, all of a script is done.
-    ensures complete { is_run (texts words.now) ≡ true
+    ensures complete { form_of (texts words.now) ≡ Some Form.Run
         → Completes (S.left source.old) (disks_of D.state a b duty)
         (Rose (S.faults source.old) (S.faults source.new))
         (Rose (K.faults sink.old) (K.faults sink.new))
@@ -69,26 +74,50 @@ pub fn office<S: Source, K: Sink, D: Disk + Drop>(
         result.0 }
 
     // Formatting takes empty disks, and leaves the source untouched.
-    ensures formats { is_format (texts words.now) ≡ true
+    ensures formats { form_of (texts words.now) ≡ Some Form.Format
         → (source.new ≡ source.old)
         × Formats (disks_of D.state a b duty) (disks_of D.state result.1 result.2 result.3)
         (K.contents sink.old) (K.contents sink.new) result.0 }
+
+    // The generated script is run as any other, from disks on which nothing is booked; it leaves the
+    // source untouched, and puts the summary in place of the replies.
+    ensures generates { (seed count : ℕ) → form_of (texts words.now) ≡ Some (Form.Generate seed count)
+        → (source.new ≡ source.old)
+        × Generates (disks_of D.state a b duty) (disks_of D.state result.1 result.2 result.3)
+        (generated seed count) (K.contents sink.old) (K.contents sink.new) result.0 }
+    ensures generates_for { (seed count : ℕ) → form_of (texts words.now) ≡ Some (Form.Generate seed count)
+        → GeneratesFor D.state (handed a b duty) (handed result.1 result.2 result.3) result.0 }
+    ensures generates_all { (seed count : ℕ) → form_of (texts words.now) ≡ Some (Form.Generate seed count)
+        → GeneratesAll (disks_of D.state a b duty)
+        (Rose (K.faults sink.old) (K.faults sink.new))
+        (NoneRose (counts_of (disks_of D.state a b duty))
+        (counts_of (disks_of D.state result.1 result.2 result.3)))
+        result.0 }
 {
-    if is_run(words) {
-        // Each image stands for one list, or shows why it stands for none.
-        frames_are_known_from_the_image();
-        duties_are_known_from_the_image();
-        duties_are_counted();
-        node_journal::an_image_is_read_one_way();
-        duty_register::an_image_is_read_one_way();
-        return run(alloc, source, sink, a, b, duty);
+    // Each image stands for one list, or shows why it stands for none.
+    frames_are_known_from_the_image();
+    duties_are_known_from_the_image();
+    duties_are_counted();
+    node_journal::an_image_is_read_one_way();
+    duty_register::an_image_is_read_one_way();
+    match read_words(alloc, words) {
+        Ok(Some(Form::Run)) => run(alloc, source, sink, a, b, duty),
+        Ok(Some(Form::Format)) => formatted(sink, a, b, duty),
+        Ok(Some(Form::Generate { seed, count })) => generate(alloc, seed, count, sink, a, b, duty),
+        Ok(None) => (Status::Usage, a, b, duty),
+        Err(NoMemory) => (Status::NoMemory, a, b, duty),
     }
-    if is_format(words) {
-        let (mut a, mut b, mut duty) = (a, b, duty);
-        let status = format(sink, &mut a, &mut b, &mut duty);
-        return (status, a, b, duty);
-    }
-    (Status::Usage, a, b, duty)
+}
+
+// Formats the disks.
+fn formatted<K: Sink, D: Disk>(sink: &mut K, a: D, b: D, duty: D) -> (Status, D, D, D)
+    ensures formats { Formats (disks_of D.state a b duty) (disks_of D.state result.1 result.2 result.3)
+        (K.contents sink.old) (K.contents sink.new) result.0 }
+    ensures sink_fault { result.0 ≡ Status.SinkFault → Rose (K.faults sink.old) (K.faults sink.new) }
+{
+    let (mut a, mut b, mut duty) = (a, b, duty);
+    let status = format(sink, &mut a, &mut b, &mut duty);
+    (status, a, b, duty)
 }
 
 // Opens the disks, reads the source to its end, and runs what it held.
@@ -120,7 +149,7 @@ fn run<S: Source, K: Sink, D: Disk + Drop>(
 }
 
 // The status where the disks are not opened.
-fn not_opened(end: OpenEnd) -> Status
+pub(crate) fn not_opened(end: OpenEnd) -> Status
     ensures { result ≡ end_status end }
 {
     match end {

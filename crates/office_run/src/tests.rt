@@ -703,7 +703,7 @@ fn empty_script_and_other_words(rt: HostRuntime) -> Result<(), Fail> {
     let empty = run(rt.alloc(), b"", &[], &[])?;
     assert_eq!(rt; empty.status, Status::Done);
     assert_eq!(rt; empty.sink.bytes().len(), 0);
-    let cases: [&[&str]; 9] = [
+    let cases: [&[&str]; 11] = [
         &[],
         &["run"],
         &["format"],
@@ -713,6 +713,8 @@ fn empty_script_and_other_words(rt: HostRuntime) -> Result<(), Fail> {
         &["run", "-d"],
         &["walk", "DIR"],
         &["run", "DIR", "DIR"],
+        &["generate", "DIR", "1"],
+        &["generate", "DIR", "1", "50001"],
     ];
     for words in cases {
         let mut source = MemSource::new(THREE.to_vec(rt.alloc())?, 300, Vec::new(rt.alloc()));

@@ -1,5 +1,4 @@
-use Rattle.std.proofs.Common.{◌≡◌, List, ℕ, ◌++◌, Option, ap, subst, sym, ◌∙◌, Ok, Err}
-use Rattle.ali_base.specs.WholePuts.{Puts}
+use Rattle.std.proofs.Common.{List, ℕ, ◌++◌, Option, ap, sym, ◌∙◌}
 use Rattle.ali_base.proofs.Puts.{puts_then, puts_stop}
 use Rattle.command_desk.specs.MadeReply.{duty_replies, left_replies}
 use Rattle.command_desk.specs.declared.reply.LeftBehind.{LeftBehind}

@@ -1,10 +1,9 @@
-use Rattle.std.proofs.Common.{◌≡◌, ◌<◌, ◌≤◌, arith, Option, None, Result, Ok, Err, ap, subst, sym, ◌∙◌}
+use Rattle.std.proofs.Common.{◌≡◌, ◌<◌, ◌≤◌, arith, None, Ok, ap, subst, sym, ◌∙◌}
 use Rattle.std.proofs.lemmas.Bool.Decides.{nat_tests}
-use Rattle.command_desk.specs.DeskSteps.{BooksFrom, IsOver, IsPlainly, Leads, PlainSwitches, RowDone, WriteAdvances, told_in}
+use Rattle.command_desk.specs.DeskSteps.{BooksFrom, IsOver, Leads, PlainSwitches, RowDone, WriteAdvances, told_in}
 use Rattle.command_desk.specs.MadeReply.{CanTell, table_of}
 use Rattle.command_desk.specs.declared.reply.Replied.{Replied}
 use Rattle.command_desk.specs.declared.reply.Reply.{Reply}
-use Rattle.command_desk.specs.declared.reply.Reply.TheVariants as reply
 use Rattle.command_desk.specs.declared.writing.Outcome.TheVariants as outcome
 use Rattle.command_desk.proofs.Batching.{pending_leads, replied_is, unwritten_leads, unwritten_left, written_leads}
 use Rattle.command_desk.proofs.EntriesBooked.{books_since, books_undone}

@@ -1,5 +1,4 @@
-use Rattle.std.proofs.Common.{◌≡◌, ◌≤◌, Some, None, refl, sym, ◌∙◌, arith}
-use Rattle.std.proofs.lemmas.Grind.{common_steps}
+use Rattle.std.proofs.Common.{◌≤◌, refl, sym, ◌∙◌, arith}
 use Rattle.std.specs.FinMap.{get}
 use Rattle.command_machine.specs.Replies as replies
 use Rattle.command_desk.proofs.Answering.{ask_ahead, ask_answered, ask_refused, ask_stops, form_made, undone, untold}
@@ -7,7 +6,6 @@ use Rattle.command_desk.proofs.Readying.{plain_switched, ready_of, ready_passed,
 use Rattle.command_desk.proofs.desk.Desk.answer.Goals as goal
 use Rattle.office_commands.specs.Commands as commands
 use Rattle.pair_core.specs.Pair.{count_of, table_of}
-use Rattle.pair_core.specs.PairRefusals as rows
 use Rattle.pair_world.specs.Refusals as refusals
 use Rattle.office_state.specs.OfficeState.{State}
 use Rattle.retrieval.specs.AnswerForm.{form}

@@ -1,4 +1,4 @@
-use Rattle.std.proofs.Common.{◌≡◌, arith, refl, None, Option, Ok, subst, sym, ◌∙◌}
+use Rattle.std.proofs.Common.{arith, refl, None, Option, Ok, subst, sym, ◌∙◌}
 use Rattle.std.specs.Option.{option_or}
 use Rattle.command_desk.specs.DeskSteps.{GoesOn, IsBatched, IsOver, Leads, TurnSwitches}
 use Rattle.command_desk.specs.MadeReply.{replies_of, table_of}

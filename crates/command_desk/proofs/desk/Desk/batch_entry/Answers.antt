@@ -1,5 +1,5 @@
-use Rattle.std.proofs.Common.{◌≡◌, Option, Some, None, Ok, subst, sym}
-use Rattle.command_desk.specs.DeskSteps.{BooksFrom, BooksSwitches, FoundSwitches, GoesOn, IsFound, IsOver, Leads, part_told}
+use Rattle.std.proofs.Common.{Option, None, Ok, subst}
+use Rattle.command_desk.specs.DeskSteps.{BooksFrom, BooksSwitches, FoundSwitches, IsFound, Leads, part_told}
 use Rattle.command_desk.specs.declared.reply.Reply.{Reply}
 use Rattle.command_desk.specs.declared.writing.Outcome.{Outcome}
 use Rattle.command_desk.proofs.Batching.{entry_booked, entry_ends, entry_left, found_ends, found_left, replied_is}

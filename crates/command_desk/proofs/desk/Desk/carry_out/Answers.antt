@@ -1,6 +1,5 @@
 use Rattle.std.proofs.Common.{ap, refl, subst, sym}
-use Rattle.command_desk.specs.MadeReply.{Carries, command_of, told_by}
-use Rattle.command_desk.specs.declared.reply.Replied.{Replied}
+use Rattle.command_desk.specs.MadeReply.{Carries, command_of}
 use Rattle.command_desk.proofs.Commanded.{carried_alone}
 use Rattle.command_desk.proofs.desk.Desk.carry_out.Goals as goal
 use Rattle.office_commands.specs.Commands as commands

@@ -1,6 +1,6 @@
-use Rattle.std.proofs.Common.{◌≡◌, inl, inr, None, Ok, subst, sym, ◌∙◌}
+use Rattle.std.proofs.Common.{inl, inr, None, Ok, subst, sym, ◌∙◌}
 use Rattle.command_desk.specs.DeskSteps.{BooksFrom, Leads}
-use Rattle.command_desk.specs.MadeReply.{Carries, replies_of, table_of}
+use Rattle.command_desk.specs.MadeReply.{replies_of, table_of}
 use Rattle.command_desk.specs.declared.refusal.Refusal.TheVariants as refusal
 use Rattle.command_desk.specs.declared.reply.Reply.TheVariants as reply
 use Rattle.command_desk.specs.declared.writing.Outcome.{Outcome}
@@ -10,7 +10,6 @@ use Rattle.command_desk.proofs.Underway.{held_up, next_switched}
 use Rattle.command_desk.proofs.desk.Desk.next.Goals as goal
 use Rattle.command_machine.specs.Courses.{written_or_passed}
 use Rattle.office_commands.specs.Commands as commands
-use Rattle.pair_core.specs.PairRefusals as rows
 
 pub returns-in-Some-clause-carries : goal.returns-in-Some-clause-carries
 returns-in-Some-clause-carries g c =

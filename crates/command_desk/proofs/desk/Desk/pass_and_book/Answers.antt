@@ -1,9 +1,8 @@
-use Rattle.std.proofs.Common.{◌≡◌, Option, Some, None, Result, Ok, Err, subst, sym, ◌∙◌}
+use Rattle.std.proofs.Common.{Ok, subst, sym, ◌∙◌}
 use Rattle.command_desk.specs.DeskSteps.{BookAdvances, BooksFrom, BooksSwitches, EventDone, GoesOn, IsPassedOn, Leads, TurnSwitches, told_in}
 use Rattle.command_desk.specs.MadeReply.{only}
 use Rattle.command_desk.specs.OpenedDesk.{Switched}
 use Rattle.command_desk.specs.declared.reply.Reply.{Reply}
-use Rattle.command_desk.specs.declared.reply.Reply.TheVariants as reply
 use Rattle.command_desk.specs.declared.writing.Outcome.TheVariants as outcome
 use Rattle.command_desk.specs.declared.writing.Turn.{Turn}
 use Rattle.command_desk.proofs.Batching.{booked_after, left_after, unbooked_after}

@@ -1,4 +1,4 @@
-use Rattle.std.proofs.Common.{◌≡◌, Some, None, refl, ap, ◌∙◌, subst, Err}
+use Rattle.std.proofs.Common.{◌≡◌, Some, refl, ap, ◌∙◌, subst}
 use Rattle.std.specs.Result.{IsOk}
 use Rattle.batch_desk.specs.EditJobs.{edit_standing}
 use Rattle.batch_desk.specs.JobReplies.{read_of}

@@ -1,0 +1,4 @@
+pub mod Columns
+pub mod GeneratedScript
+pub mod Making
+pub mod KeptScript

@@ -1,0 +1,3 @@
+pub mod Generate
+pub mod Numbers
+pub mod Words
