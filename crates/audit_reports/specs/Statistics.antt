@@ -1,13 +1,14 @@
 -- The report of how much was booked, and what there is now.
-use Rattle.std.specs.Prelude.{ℕ, ◌^◌, nat_lt, List, [], ◌∷◌, codes, count_by, length, map, filter}
+use Rattle.std.specs.Prelude.{ℕ, ◌^◌, nat_lt, List, [], ◌∷◌, codes, length, map, filter}
 use Rattle.std.specs.Fmt.{decimal}
-use Rattle.std.specs.FinMap.{len, values}
+use Rattle.std.specs.FinMap.{len}
 use Rattle.std.specs.List.{range_with_len}
 use Rattle.sequence_once.specs.KeptCycles.{known_companies}
+use Rattle.number_table.specs.NumberTable.{unlocked_in}
 use Rattle.office_entry.specs.declared.entry.Entry.{Entry}
 use Rattle.office_state.specs.declared.limits.Limits.{Limits}
 use Rattle.office_state.specs.States.{state}
-use Rattle.office_state.specs.Tallies.{opens_of, lines_of, edits_of, times_of, is_unlocked}
+use Rattle.office_state.specs.Tallies.{opens_of, lines_of, edits_of, times_of}
 use Rattle.text_line.specs.WordLines.{with_words}
 use Rattle.audit_reports.specs.CsvLines.{csv_text}
 
@@ -46,7 +47,7 @@ statistics limits history =
     ∷ statistic (codes "lines") (lines_of history)
     ∷ statistic (codes "edits") (edits_of history)
     ∷ statistic (codes "numbers") (len now.table)
-    ∷ statistic (codes "unlocked") (count_by is_unlocked (values now.table))
+    ∷ statistic (codes "unlocked") (unlocked_in now.table)
     ∷ statistic (codes "ranges") (length now.guide.ranges)
     ∷ statistic (codes "companies") (known_companies now.cycles.kept)
     ∷ all_code_statistics (times_of limits history)

@@ -9,7 +9,7 @@ use Rattle.number_life.specs.declared.row.Row.{Row}
 use Rattle.number_table.specs.NumberTable.{NumberTable, tn_cmp}
 use Rattle.number_table.specs.HeldRows.{AreChanged, changed}
 
-find_changed : (change : Row → Row) (es : List (List ℕ × Row)) (tn : List ℕ) → find tn_cmp tn (map (λ e. (e.0, change e.1)) es) ≡ option_map change (find tn_cmp tn es)
+pub find_changed : (change : Row → Row) (es : List (List ℕ × Row)) (tn : List ℕ) → find tn_cmp tn (map (λ e. (e.0, change e.1)) es) ≡ option_map change (find tn_cmp tn es)
 find_changed change [] tn = refl
 find_changed change (e ∷ es) tn =
     elim (eq_by_cmp tn_cmp tn e.0) as (λ b. cond b (Some (change e.1)) (find tn_cmp tn (map (λ x. (x.0, change x.1)) es)) ≡ option_map change (cond b (Some e.1) (find tn_cmp tn es)))

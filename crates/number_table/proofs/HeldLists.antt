@@ -18,7 +18,7 @@ use Rattle.number_table.specs.HeldRows.{AreChanged, holds_row, count_held, least
 abbrev pub map_of : List (List ℕ × Row) → NumberTable
 map_of es = from_entries {R = tn_cmp} es
 
-no_length : (es : List (List ℕ × Row)) → length es ≡ 0 → es ≡ []
+pub no_length : (es : List (List ℕ × Row)) → length es ≡ 0 → es ≡ []
 no_length [] h = refl
 no_length (e ∷ es) h = absurd (omega arith)
 

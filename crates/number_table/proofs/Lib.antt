@@ -3,3 +3,4 @@ pub mod HeldLists
 pub mod HeldAddresses
 pub mod ChangedRows
 pub mod RowLists
+pub mod UnlockedRows

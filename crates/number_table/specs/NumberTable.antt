@@ -1,11 +1,11 @@
 -- The table of numbers: a finite map from telephone numbers to rows.
-use Rattle.std.specs.Prelude.{ℕ, List, Option, Some, refl}
+use Rattle.std.specs.Prelude.{ℕ, Bool, List, Option, Some, is_some, count_by, refl, if◌then◌else◌}
 use Rattle.std.specs.Ordering.{nat_cmp}
 use Rattle.std.specs.Cmp.Lexicographic.{slice_cmp}
 use Rattle.std.specs.declared.cmp.Ordering.{Ordering}
 use Rattle.std.specs.Option.{option_map_or}
 use Rattle.std.specs.Coded.{Coded, code_by, coded_list, coded_ℕ, coded×, coded_option}
-use Rattle.std.specs.FinMap.{FinMap, code, empty, get, insert}
+use Rattle.std.specs.FinMap.{FinMap, code, empty, get, insert, values}
 use Rattle.ali_base.specs.CivilDay.{CivilDay}
 use Rattle.number_life.specs.declared.row.Row.{Row}
 
@@ -23,6 +23,18 @@ no_numbers = empty
 abbrev pub with_unlocked : NumberTable → List ℕ → CivilDay → NumberTable
 with_unlocked table tn day =
     option_map_or (λ row. insert table tn (record row { unlocked = Some day })) (get table tn) table
+
+-- a row that is unlocked
+abbrev pub is_unlocked : Row → Bool
+is_unlocked row = is_some row.unlocked
+
+-- 1 where there is a row and it is unlocked
+abbrev pub unlocked_of : Option Row → ℕ
+unlocked_of row = option_map_or (λ row. if is_unlocked row then 1 else 0) row 0
+
+-- how many rows of a table are unlocked
+abbrev pub unlocked_in : NumberTable → ℕ
+unlocked_in table = count_by is_unlocked (values table)
 
 -- a day is stored as its three numbers
 abbrev pub coded_day : Coded CivilDay

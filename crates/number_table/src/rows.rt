@@ -4,7 +4,7 @@ ghost use Rattle.std.specs.Option.{option_copied, option_map};
 ghost use Rattle.std.specs.BTreeMap.{IsOrdered, values};
 ghost use Rattle.std.specs.Map.Iter.{deref_pair};
 ghost use Rattle.std.specs.FinMap as map;
-ghost use Rattle.number_table.specs.NumberTable.{tn_cmp, no_numbers, with_unlocked};
+ghost use Rattle.number_table.specs.NumberTable.{tn_cmp, no_numbers, with_unlocked, unlocked_of, unlocked_in};
 ghost use Rattle.number_table.specs.HeldRows.{holds_row, count_held};
 
 use crate::row_changes::{is_held, set_row_esn, shift_row};
@@ -21,12 +21,14 @@ use std::marker::Model;
 #[derive(Drop)]
 pub struct Rows {
     by_tn: BTreeMap<Tn, Row>,
+    // How many of the rows are unlocked.
+    unlocked: u32,
 }
 
 impl Model for Rows {
-    ghost use Rattle.std.specs.Prelude.{◌<◌, ◌^◌, length};
+    ghost use Rattle.std.specs.Prelude.{◌≡◌, ◌<◌, ◌^◌, length};
     ghost use Rattle.std.specs.FinMap as map;
-    ghost use Rattle.number_table.specs.NumberTable.{NumberTable, coded_table};
+    ghost use Rattle.number_table.specs.NumberTable.{NumberTable, coded_table, unlocked_in};
 
     ghost Value = { NumberTable };
 
@@ -34,7 +36,8 @@ impl Model for Rows {
 
     ghost view = { λ r. map.from_entries r.by_tn.entries };
 
-    ghost invariant = { λ r. length r.by_tn.entries < 2 ^ 32 };
+    ghost invariant = { λ r. (length r.by_tn.entries < 2 ^ 32)
+        × (r.unlocked ≡ unlocked_in (map.from_entries r.by_tn.entries)) };
 }
 
 // How many rows the range holds.
@@ -44,6 +47,16 @@ fn count_in(by_tn: &BTreeMap<Tn, Row>, r: &Range) -> usize
     ensures ordered { IsOrdered tn_cmp by_tn.now }
 {
     by_tn.values().filter(|row| is_held(row, r)).count()
+}
+
+// 1 where there is a row and it is unlocked.
+fn count_of(row: Option<&Row>) -> u32
+    ensures { result ≡ unlocked_of (option_copied row.entry) }
+{
+    match row {
+        Some(row) if row.unlocked.is_some() => 1,
+        _ => 0,
+    }
 }
 
 // The first entry whose row the range holds.
@@ -62,6 +75,7 @@ impl Rows {
     {
         Rows {
             by_tn: BTreeMap::new(alloc),
+            unlocked: 0,
         }
     }
 
@@ -70,6 +84,13 @@ impl Rows {
         ensures { result ≡ map.len self.now }
     {
         self.by_tn.len() as u32
+    }
+
+    /// How many of the rows are unlocked. It is kept, not counted anew.
+    pub fn unlocked(&self) -> u32
+        ensures { result ≡ unlocked_in self.now }
+    {
+        self.unlocked
     }
 
     /// The row of a number.
@@ -99,7 +120,10 @@ impl Rows {
         ensures ok { OnOk result (self.new ≡ map.insert self.old tn row) }
         ensures err { OnErr result (self.new ≡ self.old) }
     {
-        self.by_tn.insert(tn, row)?;
+        let added = count_of(Some(&row));
+        let replaced = self.by_tn.insert(tn, row)?;
+        self.unlocked -= count_of(replaced.as_ref());
+        self.unlocked += added;
         Ok(())
     }
 
@@ -107,7 +131,8 @@ impl Rows {
     pub fn remove(&mut self, tn: Tn)
         ensures { self.new ≡ map.remove self.old tn }
     {
-        self.by_tn.remove(&tn);
+        let removed = self.by_tn.remove(&tn);
+        self.unlocked -= count_of(removed.as_ref());
     }
 
     /// Unlocks the row of the number, if there is one, on this day.
@@ -115,7 +140,9 @@ impl Rows {
         ensures { self.new ≡ with_unlocked self.old tn day }
     {
         if let Some(row) = self.by_tn.get_mut(&tn) {
+            self.unlocked -= count_of(Some(&*row));
             row.unlocked = Some(day);
+            self.unlocked += 1;
         }
     }
 
@@ -124,6 +151,7 @@ impl Rows {
         ensures { self.new ≡ no_numbers }
     {
         self.by_tn.clear();
+        self.unlocked = 0;
     }
 
     // How many rows the range holds.

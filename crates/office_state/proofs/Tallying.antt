@@ -1,14 +1,7 @@
--- How long the lists of an office are.
-use Rattle.std.proofs.Common.{◌≡◌, ℕ, zero, suc, ◌+◌, ◌<◌, ◌≤◌, List, [], ◌∷◌, length, get_or, All, AllPairs, sym, ◌∙◌, arith}
-use Rattle.std.specs.FinMap.{entries, values, len, len-entries}
-use Rattle.std.proofs.lemmas.Map.Entries.{length-values_of}
+-- How long the guide of an office is.
+use Rattle.std.proofs.Common.{◌≡◌, ℕ, zero, suc, ◌+◌, ◌<◌, ◌≤◌, List, [], ◌∷◌, length, get_or, All, AllPairs, arith}
 use Rattle.msag_ranges.specs.StreetGuide.{IsSoundGuide}
 use Rattle.msag_ranges.specs.declared.range.Range.{Range}
-use Rattle.number_table.specs.NumberTable.{NumberTable}
-
--- as many rows as numbers
-pub as_many_rows : (table : NumberTable) → length (values table) ≡ len table
-as_many_rows table = length-values_of (entries table) ∙ sym (len-entries table)
 
 -- ids that rise from 1 are no less than their places
 climbs : (ranges : List Range) (next : ℕ) (d : Range) → AllPairs (λ r s. r.id < s.id) ranges → All (λ r. (1 ≤ r.id) × (r.id < next)) ranges → (k : ℕ) → k < length ranges → k + 1 ≤ (get_or ranges k d).id

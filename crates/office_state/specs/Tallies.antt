@@ -1,8 +1,8 @@
 -- What is counted of a history: at its places, each with the verdict in the state before it; and in the state after it.
-use Rattle.std.specs.Prelude.{◌≡◌, ℕ, ◌==◌, ◌&&◌, Bool, true, false, not, is_some, List, [], ◌∷◌, ◌++◌, length, count_by, slice_index}
-use Rattle.std.specs.FinMap.{len, values}
+use Rattle.std.specs.Prelude.{◌≡◌, ℕ, ◌==◌, ◌&&◌, Bool, true, false, not, List, [], ◌∷◌, ◌++◌, length, count_by, slice_index}
+use Rattle.std.specs.FinMap.{len}
 use Rattle.sequence_once.specs.KeptCycles.{known_companies}
-use Rattle.number_life.specs.declared.row.Row.{Row}
+use Rattle.number_table.specs.NumberTable.{unlocked_in}
 use Rattle.office_entry.specs.declared.entry.Entry.{Entry}
 use Rattle.office_entry.specs.declared.entry.Entry.TheVariants.{Open, Line, Edit}
 use Rattle.office_state.specs.declared.counts.Counts.{Counts}
@@ -79,10 +79,6 @@ pub record AreCounts (limits : Limits) (history : List Entry) (counts : Counts) 
   pub places : length counts.codes ≡ CODES
   pub codes : (code : ℕ) → slice_index counts.codes code ≡ times_of limits history code
 
--- a row that is unlocked
-abbrev pub is_unlocked : Row → Bool
-is_unlocked row = is_some row.unlocked
-
 -- how often a tally has a code
 abbrev pub count_in : Tally → ℕ → ℕ
 count_in tally code = slice_index tally.codes code
@@ -95,7 +91,7 @@ pub record IsTally (limits : Limits) (history : List Entry) (tally : Tally) : Ty
   pub edits : tally.edits ≡ edits_of history
   pub codes : (code : ℕ) → count_in tally code ≡ times_of limits history code
   pub numbers : tally.numbers ≡ len (state limits history).table
-  pub unlocked : tally.unlocked ≡ count_by is_unlocked (values (state limits history).table)
+  pub unlocked : tally.unlocked ≡ unlocked_in (state limits history).table
   pub ranges : tally.ranges ≡ length (state limits history).guide.ranges
   pub companies : tally.companies ≡ known_companies (state limits history).cycles.kept
 
@@ -107,7 +103,7 @@ tally_of office = record {
   lines = office.counts.lines;
   edits = office.counts.edits;
   numbers = len office.state.table;
-  unlocked = count_by is_unlocked (values office.state.table);
+  unlocked = unlocked_in office.state.table;
   ranges = length office.state.guide.ranges;
   companies = known_companies office.state.cycles.kept;
   codes = office.counts.codes;

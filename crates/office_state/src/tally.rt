@@ -1,14 +1,12 @@
 //! What an office has booked and holds, in numbers.
-ghost use Rattle.std.specs.Prelude.{◌≡◌, ◌<◌, ◌^◌, List, length, count_by};
+ghost use Rattle.std.specs.Prelude.{◌≡◌, List};
 ghost use Rattle.office_entry.specs.declared.entry.Entry.{Entry};
 ghost use Rattle.office_state.specs.declared.limits.Limits.{Limits};
 ghost use Rattle.office_state.specs.History.{Represents};
-ghost use Rattle.office_state.specs.Tallies.{IsTally, count_in, is_unlocked, tally_of};
+ghost use Rattle.office_state.specs.Tallies.{IsTally, count_in, tally_of};
 
 use crate::counts::CODES;
 use crate::office::Office;
-use number_life::Row;
-use number_table::RowsInOrder;
 
 /// What an office has booked so far, and what it holds now.
 #[derive(Drop)]
@@ -52,25 +50,16 @@ impl Office {
             → Represents limits self.now history → IsTally limits history result }
     {
         let entries = self.entries();
-        let numbers = self.rows.len();
         Tally {
             entries,
             opens: self.counts.opens,
             lines: self.counts.lines,
             edits: self.counts.edits,
-            numbers,
-            unlocked: count_unlocked(self.rows.in_order()),
+            numbers: self.rows.len(),
+            unlocked: self.rows.unlocked(),
             ranges: self.guide.in_order().len() as u32,
             companies: self.cycles.companies(),
             codes: self.counts.codes,
         }
     }
-}
-
-// How many of the rows are unlocked.
-fn count_unlocked(rows: RowsInOrder<'_>) -> u32
-    requires { length rows < 2 ^ 32 }
-    ensures { result ≡ count_by is_unlocked rows.entry }
-{
-    rows.filter(|row| row.unlocked.is_some()).count() as u32
 }

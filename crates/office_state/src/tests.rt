@@ -284,6 +284,12 @@ fn called(office: &mut Office, call: Call) -> Option<Said> {
     })
 }
 
+// The unlocked rows, counted one by one: the slow twin of the count that the table keeps.
+fn walked(office: &Office) -> usize {
+    let rows = office.rows_in_order();
+    rows.filter(|row| row.unlocked.is_some()).count()
+}
+
 // An office with these limits does the calls of a script, each of which answers what stands behind it.
 fn follow(
     rt: &impl Abort,
@@ -294,6 +300,11 @@ fn follow(
     let mut office = Office::new(alloc, limits)?;
     for (call, said) in script {
         assert_eq!(rt; called(&mut office, *call), Some(*said), "{call:?}");
+        assert_eq!(rt;
+            office.tally().unlocked as usize,
+            walked(&office),
+            "{call:?}"
+        );
     }
     Ok(())
 }
@@ -362,14 +373,16 @@ fn what_is_booked_is_counted(rt: HostRuntime) -> Result<(), Fail> {
     follow(&rt, rt.alloc(), Limits::office(), &COUNTED)
 }
 
-// A number that is unlocked stays a number, and is counted among the unlocked ones.
-const UNLOCKED: [(Call, Said); 6] = [
+// A number that is unlocked stays a number, and is counted among the unlocked ones, until the office is cleared.
+const UNLOCKED: [(Call, Said); 8] = [
     (Call::Apply(Sent::Street), Said::Verdict(0, 1)),
     (Call::Apply(Sent::Open(2)), DONE),
     (Call::Apply(Sent::Insert(1, 0)), DONE),
     (Call::Look(Look::Held), Said::Four([1, 0, 1, 1])),
     (Call::Apply(Sent::Unlock(2)), DONE),
     (Call::Look(Look::Held), Said::Four([1, 1, 1, 1])),
+    (Call::Clear, Said::Done),
+    (Call::Look(Look::Held), Said::Four([0, 0, 0, 0])),
 ];
 
 #[test]
