@@ -1,10 +1,9 @@
 -- The rows of a tree that a range holds, and rows that were changed in place.
-use Rattle.std.proofs.Common.{◌≡◌, ℕ, List, [], ◌∷◌, Bool, true, false, cond, length, map, filter, find, Some, refl, ap, sym, ◌∙◌, arith}
+use Rattle.std.proofs.Common.{◌≡◌, ℕ, List, [], ◌∷◌, Bool, true, false, cond, length, map, filter, find, refl, ap, sym, ◌∙◌, arith}
 use Rattle.std.specs.List.{AllByRecursion}
 use Rattle.std.specs.List.Sorted.{IsStrictlySortedBy}
 use Rattle.std.specs.Map.{keys_of, values_of}
 use Rattle.std.specs.Option.{option_map}
-use Rattle.std.specs.Ordering.{eq_by_cmp}
 use Rattle.std.specs.declared.cmp.Ordering.TheVariants.{Less}
 use Rattle.std.proofs.lemmas.Cmp.{nat_list_cmp_total}
 use Rattle.std.specs.FinMap.{get, entries, from_entries, len-entries, len-empty, entries-insert, get-from_entries}
@@ -13,6 +12,7 @@ use Rattle.msag_ranges.specs.declared.range.Range.{Range}
 use Rattle.number_life.specs.declared.row.Row.{Row}
 use Rattle.number_table.specs.NumberTable.{NumberTable, tn_cmp}
 use Rattle.number_table.specs.HeldRows.{AreChanged, holds_row, count_held, least_held}
+use Rattle.number_table.proofs.ChangedRows.{find_changed}
 
 -- the map that entries make
 abbrev pub map_of : List (List ℕ × Row) → NumberTable
@@ -33,17 +33,10 @@ entries-in_order [] h = no_length (entries (map_of [])) (sym (len-entries (map_o
 entries-in_order (e ∷ es) h =
     entries-insert nat_list_cmp_total (map_of es) e.0 e.1 ∙ ap (ordered.put tn_cmp e.0 e.1) (entries-in_order es h.1) ∙ put-first e.0 e.1 es h.0
 
-find-changed : (f : Row → Row) (es : List (List ℕ × Row)) (tn : List ℕ) → ordered.find tn_cmp tn (map (λ e. (e.0, f e.1)) es) ≡ option_map f (ordered.find tn_cmp tn es)
-find-changed f [] tn = refl
-find-changed f (e ∷ es) tn =
-    let rest = find-changed f es tn in
-    elim (eq_by_cmp tn_cmp tn e.0) as (λ b. cond b (Some (f e.1)) (ordered.find tn_cmp tn (map (λ x. (x.0, f x.1)) es)) ≡ option_map f (cond b (Some e.1) (ordered.find tn_cmp tn es)))
-    [ true ↦ refl | false ↦ rest ]
-
 -- where each row was changed, each number has its changed row
 pub changed-entries : (f : Row → Row) (es fs : List (List ℕ × Row)) → fs ≡ map (λ e. (e.0, f e.1)) es → AreChanged f (map_of es) (map_of fs)
 changed-entries f es fs is = λ tn.
-    ap (λ xs. get (map_of xs) tn) is ∙ get-from_entries nat_list_cmp_total (map (λ e. (e.0, f e.1)) es) tn ∙ find-changed f es tn
+    ap (λ xs. get (map_of xs) tn) is ∙ get-from_entries nat_list_cmp_total (map (λ e. (e.0, f e.1)) es) tn ∙ find_changed f es tn
     ∙ sym (ap (option_map f) (get-from_entries nat_list_cmp_total es tn))
 
 count-values : (p : Row → Bool) (es : List (List ℕ × Row)) → length (filter p (values_of es)) ≡ length (filter (λ e. p e.1) es)
